@@ -1,0 +1,66 @@
+ghost use Rattle.std.specs.Prelude.{◌≡◌, ◌<◌, ◌≤◌, ◌++◌, length, take, slice_index, OnOk, OnErr, MatchOption};
+ghost use Rattle.std.specs.Int.{IsInRange};
+ghost use Rattle.std.specs.Fmt.{decimal};
+ghost use Rattle.surw_base.specs.Front.{IsLongestFront, HasNoFront};
+ghost use Rattle.surw_base.specs.Number.{IsNumberText};
+
+use crate::OutOfMemory;
+use itoa::Buffer;
+
+/// The longest front of a text that is a decimal number below 2^64 without leading zeros, and how many
+/// bytes it has. None exactly where no front is one.
+pub fn read_number(text: &[u8]) -> Option<(u64, usize)>
+    ensures { MatchOption result
+        (HasNoFront IsNumberText text.now)
+        (λ found. IsLongestFront IsNumberText text.now found.0 found.1) }
+{
+    if text.is_empty() || !text[0].is_ascii_digit() {
+        return None;
+    }
+    if text[0] == b'0' {
+        return Some((0, 1));
+    }
+    Some(read_digits(text))
+}
+
+// The number at the front of a text that begins with a digit other than 0.
+fn read_digits(text: &[u8]) -> (u64, usize)
+    requires some { 0 < length text.now }
+    requires first { IsInRange 49 57 (slice_index text.now 0) }
+    ensures { IsLongestFront IsNumberText text.now result.0 result.1 }
+{
+    let mut value = 0u64;
+    for (len, byte) in text.iter().enumerate() {
+        if !byte.is_ascii_digit() {
+            return (value, len);
+        }
+        let digit = u64::from(*byte - b'0');
+        if value > (u64::MAX - digit) / 10 {
+            return (value, len);
+        }
+        value = value * 10 + digit;
+    }
+    (value, text.len())
+}
+
+/// Appends the decimal digits of a number. After a refusal the vector is unchanged.
+pub fn push_number(out: &mut Vec<u8>, n: u64) -> Result<(), OutOfMemory>
+    ensures ok { OnOk result (out.new.items ≡ out.old.items ++ decimal n) }
+    ensures err { OnErr result (out.new.items ≡ out.old.items) }
+{
+    let mut buffer = Buffer::new();
+    out.extend_from_slice(buffer.format(n).as_bytes())?;
+    Ok(())
+}
+
+/// The decimal digits of a number, at the front of the array, and how many there are. It takes no memory.
+pub fn digits_of(n: u64) -> ([u8; 20], usize)
+    ensures digits { take result.1 result.0 ≡ decimal n }
+    ensures within { result.1 ≤ 20 }
+{
+    let mut buffer = Buffer::new();
+    let text = buffer.format(n).as_bytes();
+    let mut digits = [0; 20];
+    digits[..text.len()].copy_from_slice(text);
+    (digits, text.len())
+}
