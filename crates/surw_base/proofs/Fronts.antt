@@ -1,0 +1,68 @@
+-- A number that is printed and not followed by a digit is the longest front, and so is read again.
+use Rattle.std.proofs.Common.{◌≡◌, ℕ, ◌+◌, ◌-◌, ◌^◌, ◌<◌, ◌≤◌, List, [], ◌∷◌, ◌++◌, length, get_or, take, drop, refl, ap, sym, subst, ◌∙◌, arith, inl, inr, length-append}
+use Rattle.std.proofs.lemmas.Bool.{cases_lt}
+use Rattle.std.proofs.lemmas.Fmt.{decimal_injective}
+use Rattle.std.proofs.lemmas.List.{take-append-drop, take-append-le, take_all}
+use Rattle.std.specs.Fmt.{decimal}
+use Rattle.std.specs.Int.{IsInRange}
+use Rattle.surw_base.proofs.Digits.{digit-front}
+use Rattle.surw_base.specs.Front.{IsLongestFront, HasNoFront}
+use Rattle.surw_base.specs.Number.{IsNumberText}
+
+-- the bytes don't begin with a digit
+abbrev pub BeginsWithNoDigit : List ℕ → Type 0
+BeginsWithNoDigit bytes = IsInRange 48 57 (get_or bytes 0 0) → ⊥
+
+-- the longest front has one length
+pub longest-length : {V : Type 0} (IsTextOf : List ℕ → V → Type 0) (text : List ℕ) (v w : V) (m n : ℕ)
+    → IsLongestFront IsTextOf text v m → IsLongestFront IsTextOf text w n → m ≡ n
+longest-length IsTextOf text v w m n a b = elim (cases_lt m n) [
+  | inl less ↦ absurd (a.longest n w less b.within b.front)
+  | inr other ↦ elim (cases_lt n m) [
+    | inl more ↦ absurd (b.longest m v more a.within a.front)
+    | inr same ↦ omega arith
+  ]
+]
+
+-- the text is its longest front and what is left
+pub front-rest : (text : List ℕ) (v len : ℕ) → IsLongestFront IsNumberText text v len → text ≡ decimal v ++ drop len text
+front-rest text v len is = sym (take-append-drop len text) ∙ ap (λ (l : List ℕ). l ++ drop len text) is.front.digits
+
+front-of-append : (front tail : List ℕ) → take (length front) (front ++ tail) ≡ front
+front-of-append front tail = take-append-le (length front) front tail (omega arith) ∙ take_all (length front) front (omega arith)
+
+byte-behind : (front tail : List ℕ) → get_or (front ++ tail) (length front) 0 ≡ get_or tail 0 0
+byte-behind [] tail = refl
+byte-behind (x ∷ xs) tail = byte-behind xs tail
+
+rest-of-append : (front tail : List ℕ) → drop (length front) (front ++ tail) ≡ tail
+rest-of-append [] tail = refl
+rest-of-append (x ∷ xs) tail = rest-of-append xs tail
+
+-- a number before something that doesn't begin with a digit is the longest front
+pub number-front : (m : ℕ) (tail : List ℕ) → m < 2 ^ 64 → BeginsWithNoDigit tail
+    → IsLongestFront IsNumberText (decimal m ++ tail) m (length (decimal m))
+number-front m tail small other = record {
+  within = omega (arith, length-append (decimal m) tail);
+  front = record { digits = front-of-append (decimal m) tail; below = small };
+  longest = λ n w lt within is.
+    other (subst (IsInRange 48 57) (byte-behind (decimal m) tail) (digit-front (decimal m ++ tail) n w (length (decimal m)) within is lt));
+}
+
+-- so the longest front of such a text is that number, and what is left is the rest
+pub number-again : (text tail : List ℕ) (m v len : ℕ) → text ≡ decimal m ++ tail → m < 2 ^ 64 → BeginsWithNoDigit tail
+    → IsLongestFront IsNumberText text v len → (v ≡ m) × (drop len text ≡ tail)
+number-again text tail m v len is small other front =
+    let there = subst (λ (t : List ℕ). IsLongestFront IsNumberText t m (length (decimal m))) (sym is) (number-front m tail small other) in
+    let long = longest-length IsNumberText text v m len (length (decimal m)) front there in
+    (
+      decimal_injective v m front.front.below small
+          (sym front.front.digits ∙ ap (λ (n : ℕ). take n text) long ∙ there.front.digits),
+      ap (λ (n : ℕ). drop n text) long ∙ ap (drop (length (decimal m))) is ∙ rest-of-append (decimal m) tail,
+    )
+
+-- and such a text has a front
+pub number-some : (text tail : List ℕ) (m : ℕ) → text ≡ decimal m ++ tail → m < 2 ^ 64 → BeginsWithNoDigit tail → HasNoFront IsNumberText text → ⊥
+number-some text tail m is small other none =
+    let there = subst (λ (t : List ℕ). IsLongestFront IsNumberText t m (length (decimal m))) (sym is) (number-front m tail small other) in
+    none (length (decimal m)) m there.within there.front
