@@ -8,10 +8,7 @@ use Rattle.std.specs.Int.{IsInRange}
 use Rattle.surw_base.proofs.Digits.{digit-front}
 use Rattle.surw_base.specs.Front.{IsLongestFront, HasNoFront}
 use Rattle.surw_base.specs.Number.{IsNumberText}
-
--- the bytes don't begin with a digit
-abbrev pub BeginsWithNoDigit : List ℕ → Type 0
-BeginsWithNoDigit bytes = IsInRange 48 57 (get_or bytes 0 0) → ⊥
+pub use Rattle.surw_base.specs.Number.{BeginsWithNoDigit}
 
 -- the longest front has one length
 pub longest-length : {V : Type 0} (IsTextOf : List ℕ → V → Type 0) (text : List ℕ) (v w : V) (m n : ℕ)
