@@ -1,0 +1,4 @@
+pub mod Bag
+pub mod Lists
+pub mod Named
+pub mod Rooms

@@ -1,0 +1,36 @@
+-- Steps on lists that the kit has no lemma for.
+use Rattle.std.proofs.Common.{◌≡◌, ℕ, zero, suc, ◌+◌, ◌-◌, ◌≤◌, List, [], ◌∷◌, ◌++◌, length, get_or, take, replicate, refl, ap, ◌∙◌, arith}
+use Rattle.std.proofs.lemmas.List.{drop_all, append-nil, append_assoc, take_all, replicate_more, replicate-append-replicate, length-replicate}
+use Rattle.std.specs.List.{refill}
+use Rattle.draw_split.specs.Split.{padded}
+
+-- a list that is refilled with as many is the new ones
+pub refill_all : (xs ws : List ℕ) → length ws ≡ length xs → refill (length xs) xs ws ≡ ws
+refill_all xs ws e =
+    ap (λ (l : List ℕ). take (length xs) (ws ++ l)) (drop_all (length ws) xs (omega arith))
+    ∙ ap (take (length xs)) (append-nil ws)
+    ∙ take_all (length xs) ws (omega arith)
+
+-- one empty list more
+pub missing-more : (now before : List (List ℕ)) (m n : ℕ) → n ≤ m → now ≡ before ++ replicate (m - n) [] → now ++ [] ∷ [] ≡ before ++ replicate (m + 1 - n) []
+missing-more now before m n le e =
+    let more : m - n + 1 ≡ m + 1 - n = omega arith in
+    ap (λ (l : List (List ℕ)). l ++ [] ∷ []) e
+    ∙ append_assoc before (replicate (m - n) []) ([] ∷ [])
+    ∙ ap (λ (l : List (List ℕ)). before ++ l) (replicate_more (m - n) [])
+    ∙ ap (λ n. before ++ replicate n []) more
+
+-- empty lists with those that are missing
+pub padded-none : (lists : List (List ℕ)) (n : ℕ) → n ≤ 16 → lists ≡ replicate n [] → padded lists ≡ replicate 16 []
+padded-none lists n le e =
+    let all : n + (16 - n) ≡ 16 = omega arith in
+    ap padded e
+    ∙ ap (λ m. replicate n [] ++ replicate (16 - m) []) (length-replicate {A = List ℕ} n [])
+    ∙ replicate-append-replicate n (16 - n) []
+    ∙ ap (λ m. replicate {A = List ℕ} m []) all
+
+-- each list of empty ones is empty
+pub none-kept : (n thread : ℕ) → get_or {A = List ℕ} (replicate n []) thread [] ≡ []
+none-kept zero thread = refl
+none-kept (suc n) zero = refl
+none-kept (suc n) (suc thread) = none-kept n thread
