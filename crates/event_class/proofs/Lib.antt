@@ -1,0 +1,5 @@
+pub mod Numbers
+pub mod Events
+pub mod Pickables
+pub mod Same
+pub mod Again
