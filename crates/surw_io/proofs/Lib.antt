@@ -1,1 +1,4 @@
+pub mod Results
+pub mod ShelfRules
+pub mod SinkRules
 pub mod Told

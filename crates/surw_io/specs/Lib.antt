@@ -1,3 +1,6 @@
+pub mod Calls
 pub mod Cause
 pub mod Content
 pub mod Fetch
+pub mod MemShelf
+pub mod MemSink

@@ -5,12 +5,25 @@
 //! it counts its faults, and a call fails only where that count rose, or where there is no such file.
 #![tactic(auto)]
 
+mod calls;
 mod failed;
+mod file_shelf;
+mod mem_shelf;
+mod mem_sink;
+mod safe_shelf;
+mod safe_sink;
 mod shelf;
 mod sink;
+mod std_sink;
 mod whole_file;
 
 pub use failed::Failed;
+pub use file_shelf::FileShelf;
+pub use mem_shelf::MemShelf;
+pub use mem_sink::MemSink;
+pub use safe_shelf::SafeShelf;
+pub use safe_sink::SafeSink;
 pub use shelf::Shelf;
 pub use sink::{Sink, put_all};
+pub use std_sink::StdSink;
 pub use whole_file::{FetchFault, fetch};

@@ -37,3 +37,6 @@ pub fn put_all<O: Sink>(out: &mut O, bytes: &[u8]) -> Result<(), Failed>
     }
     Ok(())
 }
+
+#[cfg(test)]
+mod tests;

@@ -9,7 +9,7 @@ use std::error::Error;
 use std::fmt;
 
 // The most bytes that one read asks for.
-const READ_SIZE: usize = 8_192;
+pub(crate) const READ_SIZE: usize = 8_192;
 
 /// Why a file was not fetched.
 #[derive(Clone, Copy, Debug, PartialEq, Eq)]
@@ -90,3 +90,6 @@ pub fn fetch<F: Shelf>(
         bytes.extend_from_slice(&buffer[..n])?;
     }
 }
+
+#[cfg(test)]
+mod tests;

@@ -1,4 +1,4 @@
-use Rattle.std.proofs.Common.{◌≡◌, List, ℕ, ap, ◌∙◌, ◌++◌}
+use Rattle.std.proofs.Common.{List, ℕ, ap, ◌∙◌, ◌++◌}
 use Rattle.surw_io.proofs.Told.{one_more_piece}
 use Rattle.surw_io.proofs.sink.put_all.Goals as goal
 
