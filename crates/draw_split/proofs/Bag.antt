@@ -1,11 +1,12 @@
 -- The place of a draw in the bag, as a thread and a rest below the thread's count.
-use Rattle.std.proofs.Common.{◌≡◌, ◌≢◌, ℕ, zero, suc, ◌+◌, ◌-◌, ◌*◌, ◌==◌, ◌<◌, ◌≤◌, Bool, cond, List, [], ◌∷◌, ◌++◌, length, get_or, take, replicate, sum, refl, ap, sym, subst, ◌∙◌, inl, inr, arith}
+use Rattle.std.proofs.Common.{◌≡◌, ◌≢◌, ℕ, zero, suc, ◌+◌, ◌-◌, ◌*◌, ◌==◌, ◌<◌, ◌≤◌, Bool, cond, List, [], ◌∷◌, ◌++◌, length, get_or, map, take, replicate, sum, refl, ap, sym, subst, ◌∙◌, inl, inr, arith}
 use Rattle.std.proofs.Math.Seq.{take-append-add}
 use Rattle.std.proofs.lemmas.Bool.{cases_lt, eq-eqb, ne_eqb}
-use Rattle.std.proofs.lemmas.List.{get_or-append-add, get_or_append_left, get_or-replicate, get_or_past, length-replicate, take-append-le, take-replicate}
+use Rattle.std.proofs.lemmas.List.{get_or-append-add, get_or_append_left, get_or-replicate, get_or_past, length-append, length-replicate, take-append-le, take-replicate, take_all}
 use Rattle.std.proofs.lemmas.List.Folds.{sum_by-replicate}
-use Rattle.std.proofs.lemmas.List.Sums.{sum_by-cons, sum_by-append, sum_by-set}
-use Rattle.std.specs.List.{flat_map, enumerate_from, count_by}
+use Rattle.std.proofs.lemmas.List.FromFn.{fill_by_all}
+use Rattle.std.proofs.lemmas.List.Sums.{sum_by-cons, sum_by-append, sum_by-set, sum_by_more_le}
+use Rattle.std.specs.List.{flat_map, enumerate_from, count_by, range_with_len}
 use Rattle.draw_split.specs.Bag.{bag, pick, offset, less_one}
 
 -- the draw is that many places past the places of the lower threads, within the thread's own
@@ -129,3 +130,66 @@ pub sum-less_one : (counts : List ℕ) (thread : ℕ) → 0 < get_or counts thre
 unfolding less_one
 sum-less_one counts thread some =
     omega (arith, sum_by-set (λ x. x) counts thread (get_or counts thread 0 - 1) 0 (listed counts thread 0 some))
+
+-- a place of the bag is below the sum
+pub at-below : {counts : List ℕ} {draw thread rest : ℕ} → IsAt counts draw thread rest → draw < sum counts
+at-below {counts} {draw} {thread} {rest} at =
+    let within = at.within in
+    omega (arith, at.there, sum_by_more_le (λ x. x) counts thread 0 (listed counts thread rest at.within))
+
+-- the places of the lower threads, summed one count after another
+pub summed-at : (counts lower : List ℕ) (draw thread rest index : ℕ) → rest < get_or counts thread 0 → lower ≡ take thread counts
+    → draw ≡ rest + sum (take index lower) → length lower ≤ index → IsAt counts draw thread rest
+summed-at counts lower draw thread rest index within cut summed past = record {
+  within = within;
+  there = sym (summed ∙ ap (λ (l : List ℕ). rest + sum l) (take_all index lower past ∙ cut));
+}
+
+-- one draw alone has a pick and an offset
+pub only-at : (counts : List ℕ) (draw thread rest : ℕ) → IsAt counts draw thread rest
+    → (other : ℕ) → other < sum counts → pick counts other ≡ thread → offset counts other ≡ rest → other ≡ draw
+only-at counts draw thread rest at other lt picked put =
+    sym (placed counts other lt).there ∙ (λ i. put i + sum (take (picked i) counts)) ∙ at.there
+
+-- how often a thread stands in the bag
+bag_from-none : (counts : List ℕ) (first thread : ℕ) → thread < first → count_by (λ other. other == thread) (bag_from first counts) ≡ 0
+bag_from-none [] first thread lt = refl
+bag_from-none (c ∷ cs) first thread lt =
+    sum_by-append (λ other. cond (other == thread) 1 0) (replicate c first) (bag_from (first + 1) cs)
+    ∙ (λ i. count_run_other c first thread (λ e. omega arith) i + bag_from-none cs (first + 1) thread (omega arith) i)
+
+bag_from-times : (counts : List ℕ) (first i : ℕ) → count_by (λ other. other == first + i) (bag_from first counts) ≡ get_or counts i 0
+bag_from-times [] first i = refl
+bag_from-times (c ∷ cs) first zero =
+    let same : first + 0 ≡ first = omega arith in
+    ap (λ n. count_by (λ other. other == n) (replicate c first ++ bag_from (first + 1) cs)) same
+    ∙ sum_by-append (λ other. cond (other == first) 1 0) (replicate c first) (bag_from (first + 1) cs)
+    ∙ (λ i. count_run_same c first i + bag_from-none cs (first + 1) first (omega arith) i)
+    ∙ omega arith
+bag_from-times (c ∷ cs) first (suc i) =
+    let same : first + suc i ≡ first + 1 + i = omega arith in
+    ap (λ n. count_by (λ other. other == n) (replicate c first ++ bag_from (first + 1) cs)) same
+    ∙ sum_by-append (λ other. cond (other == first + 1 + i) 1 0) (replicate c first) (bag_from (first + 1) cs)
+    ∙ (λ j. count_run_other c first (first + 1 + i) (λ e. omega arith) j + bag_from-times cs (first + 1) i j)
+    ∙ omega arith
+
+pub bag-times : (counts : List ℕ) (thread : ℕ) → count_by (λ other. other == thread) (bag counts) ≡ get_or counts thread 0
+unfolding bag
+bag-times counts thread =
+    let same : 0 + thread ≡ thread = omega arith in
+    ap (λ n. count_by (λ other. other == n) (bag_from 0 counts)) (sym same) ∙ bag_from-times counts 0 thread
+
+-- the bag has as many places as the sum
+length-bag_from : (counts : List ℕ) (first : ℕ) → length (bag_from first counts) ≡ sum counts
+length-bag_from [] first = refl
+length-bag_from (c ∷ cs) first =
+    omega (arith, length-append (replicate c first) (bag_from (first + 1) cs), length-replicate c first, length-bag_from cs (first + 1), sum_by-cons (λ x. x) c cs)
+
+pub length-bag : (counts : List ℕ) → length (bag counts) ≡ sum counts
+unfolding bag
+length-bag counts = length-bag_from counts 0
+
+-- the picks of all draws below the sum are the bag
+pub bag-picks : (counts : List ℕ) (n : ℕ) → sum counts ≡ n → bag counts ≡ map (pick counts) (range_with_len 0 n)
+unfolding pick
+bag-picks counts n e = fill_by_all (λ k. get_or (bag counts) k 0) (bag counts) n 0 (length-bag counts ∙ e) (λ k lt. refl)

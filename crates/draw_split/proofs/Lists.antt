@@ -1,7 +1,8 @@
 -- Steps on lists that the kit has no lemma for.
 use Rattle.std.proofs.Common.{◌≡◌, ℕ, zero, suc, ◌+◌, ◌-◌, ◌≤◌, List, [], ◌∷◌, ◌++◌, length, get_or, take, replicate, refl, ap, ◌∙◌, arith}
 use Rattle.std.proofs.lemmas.List.{drop_all, append-nil, append_assoc, take_all, replicate_more, replicate-append-replicate, length-replicate}
-use Rattle.std.specs.List.{refill}
+use Rattle.std.proofs.lemmas.List.Elements.{All-append, All-replicate}
+use Rattle.std.specs.List.{All, refill}
 use Rattle.draw_split.specs.Split.{padded}
 
 -- a list that is refilled with as many is the new ones
@@ -28,6 +29,13 @@ padded-none lists n le e =
     ∙ ap (λ m. replicate n [] ++ replicate (16 - m) []) (length-replicate {A = List ℕ} n [])
     ∙ replicate-append-replicate n (16 - n) []
     ∙ ap (λ m. replicate {A = List ℕ} m []) all
+
+-- lists that are no longer than a number are so with those that are missing
+pub All-padded : (most : ℕ) (lists : List (List ℕ)) → All (λ list. length list ≤ most) lists → All (λ list. length list ≤ most) (padded lists)
+All-padded most lists all =
+    let P : List ℕ → Type 0 = λ list. length list ≤ most in
+    let none : 0 ≤ most = omega arith in
+    All-append P lists (replicate (16 - length lists) []) all (All-replicate P (16 - length lists) [] none)
 
 -- each list of empty ones is empty
 pub none-kept : (n thread : ℕ) → get_or {A = List ℕ} (replicate n []) thread [] ≡ []

@@ -168,6 +168,15 @@ named-room counts (draw ∷ draws) is thread =
           (subst (λ (n : ℕ). IsInRoom n (named_offsets (after counts draw) draws thread)) (less_one-other counts (pick counts draw) thread other) later)
     ]
 
+-- the order has as many places as there are draws
+length-named_order : (counts draws : List ℕ) → length (named_order counts draws) ≡ length draws
+length-named_order counts [] = ap length (named_order-nil counts)
+length-named_order counts (draw ∷ draws) =
+    ap length (named_order-cons counts draw draws) ∙ ap suc (length-named_order (after counts draw) draws)
+
+pub names-long : (counts draws : List ℕ) (split : Parts) → Names counts draws split → length split.order ≡ length draws
+names-long counts draws split names = ap length names.order_named ∙ length-named_order counts draws
+
 -- what draws name is an order that fits, and offsets in their rooms
 pub names-fits : (counts draws : List ℕ) (split : Parts) → Names counts draws split → Fits counts split.order
 names-fits counts draws split names = subst (Fits counts) (sym names.order_named) (named-fits counts draws (good counts draws names.list))

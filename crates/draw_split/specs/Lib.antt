@@ -1,5 +1,8 @@
+pub mod AllDraws
 pub mod Bag
 pub mod DrawList
+pub mod JoinFault
+pub mod Laws
 pub mod Named
 pub mod Rooms
 pub mod Split

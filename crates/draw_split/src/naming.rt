@@ -1,4 +1,4 @@
-ghost use Rattle.std.specs.Prelude.{◌≤◌, length, sum, IfOk, IfErr, OnOk};
+ghost use Rattle.std.specs.Prelude.{◌≡◌, ◌≤◌, length, sum, IfOk, IfErr, OnOk};
 ghost use Rattle.draw_split.specs.DrawList.{IsDrawList};
 ghost use Rattle.draw_split.specs.Named.{Names};
 ghost use Rattle.draw_split.specs.Rooms.{Fits, AreInRooms};
@@ -78,6 +78,7 @@ pub fn order_of(alloc: Global, counts: &[u32], draws: &[u64]) -> Result<Split, S
     requires threads { length counts.now ≤ THREADS }
     requires steps { sum counts.now ≤ STEPS }
     ensures ok { IfOk result (Names counts.now draws.now) }
+    ensures long { IfOk result (λ split. length split.order ≡ length draws.now) }
     ensures fits { IfOk result (λ split. Fits counts.now split.order) }
     ensures rooms { IfOk result (λ split. AreInRooms counts.now split.offsets) }
     ensures refused { IfErr result (IsRefused counts.now draws.now) }

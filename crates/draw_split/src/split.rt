@@ -78,7 +78,8 @@ impl Split {
 
     /// The offsets of a thread.
     pub fn offsets(&self, thread: ThreadNo) -> &[u32]
-        ensures { result.now ≡ slice_index_or self.now.offsets thread [] }
+        ensures list { result.now ≡ slice_index_or self.now.offsets thread [] }
+        ensures lists { length self.now.offsets ≡ THREADS }
     {
         self.offsets[usize::from(thread.get())].as_slice()
     }

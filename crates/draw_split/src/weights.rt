@@ -1,3 +1,5 @@
+ghost use Rattle.std.specs.Prelude.{◌≡◌, slice_index};
+
 use arrayvec::ArrayVec;
 use std::marker::Model;
 use surw_base::{STEPS, THREADS, ThreadNo};
@@ -53,11 +55,7 @@ impl Weights {
     pub fn left(&self, thread: ThreadNo) -> u32
         ensures { result ≡ slice_index self.now thread }
     {
-        self.counts
-            .as_slice()
-            .get(usize::from(thread.get()))
-            .copied()
-            .unwrap_or(0)
+        count_of(self.counts.as_slice(), thread)
     }
 
     /// The sum of the counts, at most `STEPS`.
@@ -85,4 +83,11 @@ impl Weights {
         self.counts[usize::from(thread.get())] -= 1;
         self.sum -= 1;
     }
+}
+
+// The count of a thread, and 0 past the list.
+pub(crate) fn count_of(counts: &[u32], thread: ThreadNo) -> u32
+    ensures { result ≡ slice_index counts.now thread }
+{
+    counts.get(usize::from(thread.get())).copied().unwrap_or(0)
 }

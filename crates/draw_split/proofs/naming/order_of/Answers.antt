@@ -1,7 +1,7 @@
 use Rattle.std.proofs.Common.{◌≡◌, ℕ, ◌<◌, List, [], get_or, length, ap, sym, subst, ◌∙◌, arith}
 use Rattle.draw_split.specs.Bag.{pick, offset}
 use Rattle.draw_split.proofs.Lists.{none-kept}
-use Rattle.draw_split.proofs.Named.{split-none, split-next, split-all, next-thread, next-few, names-fits, names-rooms}
+use Rattle.draw_split.proofs.Named.{split-none, split-next, split-all, next-thread, next-few, names-long, names-fits, names-rooms}
 use Rattle.draw_split.proofs.naming.order_of.Goals as goal
 
 pub loop-draw-init : goal.loop-draw-init
@@ -36,3 +36,6 @@ returns-clause-fits c = names-fits _ _ _ (split-all _ _ _ _ _ c.loop-draw.invari
 
 pub returns-clause-rooms : goal.returns-clause-rooms
 returns-clause-rooms c = names-rooms _ _ _ (split-all _ _ _ _ _ c.loop-draw.invariant c.loop-draw-test.false)
+
+pub returns-clause-long : goal.returns-clause-long
+returns-clause-long c = names-long _ _ _ (split-all _ _ _ _ _ c.loop-draw.invariant c.loop-draw-test.false)
