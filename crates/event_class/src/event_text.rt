@@ -1,7 +1,7 @@
 ghost use Rattle.std.specs.Prelude.{◌≡◌, ℕ, ◌+◌, List, ◌++◌, ◌≤◌, Some, length, take, drop, IsTrue, IfSome, IfNone, OnOk, OnErr, MatchOption, nat_eq};
 ghost use Rattle.std.specs.List.{starts_with};
 ghost use Rattle.surw_base.specs.Front.{IsLongestFront, HasNoFront};
-ghost use Rattle.event_class.specs.Event.{verb_of, numbers_of, numbers_text, event_text, AreNumbersText, IsEventText, IsPrinted};
+ghost use Rattle.event_class.specs.Event.{verb_of, numbers_of, numbers_text, event_text, AreSmall, AreNumbersText, IsEventText, IsPrinted};
 
 use crate::Event;
 use crate::event::FORMS;
@@ -14,6 +14,9 @@ const LONGEST: usize = 70;
 pub fn push_event(out: &mut Vec<u8>, event: &Event) -> Result<(), OutOfMemory>
     ensures ok { OnOk result (out.new.items ≡ out.old.items ++ event_text event.now) }
     ensures err { OnErr result (out.new.items ≡ out.old.items) }
+
+    // What a caller needs to know of the event so that its text is read again.
+    ensures below { AreSmall (numbers_of event.now) }
 {
     let (text, len) = text_of(event);
     out.extend_from_slice(&text[..len])?;
@@ -24,6 +27,7 @@ pub fn push_event(out: &mut Vec<u8>, event: &Event) -> Result<(), OutOfMemory>
 fn text_of(event: &Event) -> ([u8; LONGEST], usize)
     ensures text { take result.1 result.0 ≡ event_text event.now }
     ensures within { result.1 ≤ LONGEST }
+    ensures below { AreSmall (numbers_of event.now) }
 {
     let mut text = [0; LONGEST];
     let (numbers, count) = event.numbers();
