@@ -43,7 +43,7 @@ number-front m tail small other = record {
   within = omega (arith, length-append (decimal m) tail);
   front = record { digits = front-of-append (decimal m) tail; below = small };
   longest = λ n w lt within is.
-    other (subst (IsInRange 48 57) (byte-behind (decimal m) tail) (digit-front (decimal m ++ tail) n w (length (decimal m)) within is lt));
+      other (subst (IsInRange 48 57) (byte-behind (decimal m) tail) (digit-front (decimal m ++ tail) n w (length (decimal m)) within is lt));
 }
 
 -- so the longest front of such a text is that number, and what is left is the rest
@@ -51,8 +51,7 @@ pub number-again : (text tail : List ℕ) (m v len : ℕ) → text ≡ decimal m
     → IsLongestFront IsNumberText text v len → (v ≡ m) × (drop len text ≡ tail)
 number-again text tail m v len is small other front =
     let there = subst (λ (t : List ℕ). IsLongestFront IsNumberText t m (length (decimal m))) (sym is) (number-front m tail small other) in
-    let long = longest-length IsNumberText text v m len (length (decimal m)) front there in
-    (
+    let long = longest-length IsNumberText text v m len (length (decimal m)) front there in (
       decimal_injective v m front.front.below small
           (sym front.front.digits ∙ ap (λ (n : ℕ). take n text) long ∙ there.front.digits),
       ap (λ (n : ℕ). drop n text) long ∙ ap (drop (length (decimal m))) is ∙ rest-of-append (decimal m) tail,

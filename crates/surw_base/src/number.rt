@@ -64,3 +64,35 @@ pub fn digits_of(n: u64) -> ([u8; 20], usize)
     digits[..text.len()].copy_from_slice(text);
     (digits, text.len())
 }
+
+#[cfg(test)]
+mod tests {
+    use super::*;
+    use std::test::Fail;
+
+    #[test]
+    fn numbers_are_printed(rt: HostRuntime) -> Result<(), Fail> {
+        for (number, text) in [(0, "0"), (907, "907"), (u64::MAX, "18446744073709551615")] {
+            let mut out = Vec::new(rt.alloc());
+            push_number(&mut out, number)?;
+            assert_eq!(rt; out.as_slice(), text.as_bytes(), "{text}");
+        }
+        Ok(())
+    }
+
+    #[test]
+    fn the_longest_front_is_read(rt: HostRuntime) {
+        for (text, number, len) in [
+            ("12x", 12, 2),
+            ("01", 0, 1),
+            ("7 8", 7, 1),
+            ("18446744073709551615", u64::MAX, 20),
+            ("18446744073709551616", 1_844_674_407_370_955_161, 19),
+        ] {
+            assert_eq!(rt; read_number(text.as_bytes()), Some((number, len)), "{text}");
+        }
+        for text in ["", "x1", "-1", " 1"] {
+            assert_eq!(rt; read_number(text.as_bytes()), None, "{text}");
+        }
+    }
+}

@@ -12,7 +12,7 @@ returns-then-not-is_ascii_digit c =
     let out : IsNotAsciiDigit (get_or text len 0) = c.if-not-is_ascii_digit.ensures.cases in
     let some : 0 < len = past-first IsNotAsciiDigit text len out (λ h. grind (arith, c.requires.first)) in
     longest text _ len c.loop-len.invariant some c.loop-len.auto.len-end
-        (λ n w lt within is. let digit = digit-front text n w len within is lt in grind arith)
+    (λ n w lt within is. let digit = digit-front text n w len within is lt in grind arith)
 
 pub returns-then-value-digit : goal.returns-then-value-digit
 returns-then-value-digit c =
@@ -22,7 +22,7 @@ returns-then-value-digit c =
     let is = c.from-digit.ensures in
     let some : 0 < len = grind (arith, c.loop-len.invariant.start) in
     longest text _ len c.loop-len.invariant some c.loop-len.auto.len-end
-        (λ n w lt within number. omega (arith, longer-front text c.loop-len.value len n w c.loop-len.invariant within number lt, number.below))
+    (λ n w lt within number. omega (arith, longer-front text c.loop-len.value len n w c.loop-len.invariant within number lt, number.below))
 
 pub loop-len-preserved : goal.loop-len-preserved
 loop-len-preserved c =
@@ -30,7 +30,7 @@ loop-len-preserved c =
     let digit = c.if-not-is_ascii_digit.ensures.cases in
     let read : ℕ → _ = λ (d : ℕ). AreRead text (c.loop-len.value * 10 + d) (c.loop-len.len + 1) in
     subst read (sym c.from-digit.ensures)
-        (one-more text c.loop-len.value c.loop-len.len c.loop-len.invariant c.loop-len-test.true digit (c.requires.first.0) (omega (arith, c.from-digit.ensures)))
+    (one-more text c.loop-len.value c.loop-len.len c.loop-len.invariant c.loop-len-test.true digit (c.requires.first.0) (omega (arith, c.from-digit.ensures)))
 
 pub returns : goal.returns
 returns c =
