@@ -4,3 +4,4 @@ pub mod Content
 pub mod Fetch
 pub mod MemShelf
 pub mod MemSink
+pub mod SafeShelf

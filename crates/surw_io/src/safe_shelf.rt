@@ -1,7 +1,9 @@
-ghost use Rattle.std.specs.Prelude.{◌≡◌, ℕ, List, [], Some};
+ghost use Rattle.std.specs.Prelude.{◌≡◌, ◌++◌, ℕ, List, [], length, min, take, drop, IsOk, IfOk};
 ghost use Rattle.surw_io.specs.Content.{File};
+ghost use Rattle.surw_io.specs.SafeShelf.{opened};
 
 use crate::{Failed, Shelf};
+use std::marker::Model;
 
 /// A shelf whose first open gives one text and each later one another, for every name. No call fails.
 #[derive(Drop)]
@@ -10,6 +12,19 @@ pub struct SafeShelf<'a> {
     second: &'a [u8],
     left: &'a [u8],
     opens: u64,
+}
+
+impl<'a> Model for SafeShelf<'a> {
+    ghost use Rattle.surw_io.specs.SafeShelf.{TextsState};
+
+    ghost Value = { TextsState };
+
+    ghost view = { λ shelf. record {
+      first = shelf.first.now;
+      second = shelf.second.now;
+      left = shelf.left.now;
+      opens = shelf.opens;
+    } };
 }
 
 impl<'a> SafeShelf<'a> {
@@ -31,24 +46,36 @@ impl<'a> SafeShelf<'a> {
 }
 
 impl<'a> Shelf for SafeShelf<'a> {
-    ghost coming = { λ shelf _. Some (File shelf.first.now) };
+    ghost use Rattle.std.specs.Prelude.{Some};
+    ghost use Rattle.surw_io.specs.Content.{File};
 
-    ghost coming_after = { λ shelf _. Some (File shelf.second.now) };
+    ghost coming = { λ shelf _. Some (File shelf.first) };
 
-    ghost left = { λ shelf. Some shelf.left.now };
+    ghost coming_after = { λ shelf _. Some (File shelf.second) };
+
+    ghost left = { λ shelf. Some shelf.left };
 
     ghost opens = { λ shelf. shelf.opens };
 
     ghost in_faults = { λ _. 0 };
 
-    fn open(&mut self, _name: &str) -> Result<(), Failed> {
+    fn open(&mut self, _name: &str) -> Result<(), Failed>
+        ensures ok { IsOk result }
+        ensures after { self.new ≡ opened self.old }
+    {
         self.opens = self.opens.saturating_add(1);
         self.left = self.first;
         self.first = self.second;
         Ok(())
     }
 
-    fn read(&mut self, into: &mut [u8]) -> Result<usize, Failed> {
+    fn read(&mut self, into: &mut [u8]) -> Result<usize, Failed>
+        ensures ok { IsOk result }
+        ensures gives { IfOk result (λ n. n ≡ min (length into.old) (length self.old.left)) }
+        ensures moved { IfOk result (λ n. self.old.left ≡ take n into.new ++ self.new.left) }
+        ensures rest { IfOk result (λ n. drop n into.new ≡ drop n into.old) }
+        ensures after { self.new ≡ record self.old { left = self.new.left } }
+    {
         let n = into.len().min(self.left.len());
         let (front, rest) = self.left.split_at(n);
         into[..n].copy_from_slice(front);
