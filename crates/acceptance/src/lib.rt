@@ -1,0 +1,5 @@
+//! Tests that cross the crates: whole command lines over shelves and sinks in memory.
+#![tactic(auto)]
+
+#[cfg(test)]
+mod order;

@@ -1,0 +1,81 @@
+-- How the top call ends: the cause of each status, and what stands after it.
+use Rattle.std.specs.Prelude.{◌≡◌, ◌⊎◌, ℕ, List, Option}
+use Rattle.surw_io.specs.Cause.{Rose}
+use Rattle.surw_io.specs.Content.{with_end, HoldsFront}
+use Rattle.surw_cli.specs.Answer.{Answer, Report, Refusal, Coming, IsAnswer}
+use Rattle.surw_cli.specs.Fault.{fault_text, status_of}
+use Rattle.surw_cli.specs.Stop.{IsUnread}
+use Rattle.surw_cli.specs.declared.fault.Fault.{Fault}
+use Rattle.surw_cli.specs.declared.fault.Fault.TheVariants.{Read}
+use Rattle.surw_cli.specs.declared.status.Status.{Status}
+use Rattle.surw_cli.specs.declared.status.Status.TheVariants.{Done, Words, Form, ReadFault, WriteFault, OutOfMemory, Draw, TooLong}
+
+-- what a call was given, and what it changed: the counts of faults and what the sink has taken
+pub record Call : Type 0 where
+  pub words : List (List ℕ)
+  pub coming : Coming
+  pub shelf_before : ℕ
+  pub shelf_now : ℕ
+  pub sink_before : ℕ
+  pub sink_now : ℕ
+  pub taken_before : Option (List ℕ)
+  pub taken_now : Option (List ℕ)
+
+-- no count of the shelf rose
+abbrev pub IsCalm : Call → Type 0
+IsCalm call = call.shelf_now ≡ call.shelf_before
+
+-- the text was written, whole
+pub record Wrote (call : Call) (text : List ℕ) : Type 0 where
+  pub added : call.taken_now ≡ with_end call.taken_before text
+  pub calm : call.sink_now ≡ call.sink_before
+
+-- the sink failed at the text, so a front of it was written
+pub record WroteFront (call : Call) (text : List ℕ) : Type 0 where
+  pub added : HoldsFront call.taken_before text call.taken_now
+  pub rose : Rose call.sink_before call.sink_now
+
+-- the refusal was answered, and told as far as the sink took it
+pub record WasRefused (call : Call) (status : Status) : Type 0 where
+  pub fault : Fault
+  pub is : status ≡ status_of fault
+  pub cause : IsAnswer call.words call.coming (Refusal fault)
+  pub told : Wrote call (fault_text fault) ⊎ WroteFront call (fault_text fault)
+  pub calm : IsCalm call
+
+-- the report was written
+pub record WasDone (call : Call) : Type 0 where
+  pub text : List ℕ
+  pub cause : IsAnswer call.words call.coming (Report text)
+  pub told : Wrote call text
+  pub calm : IsCalm call
+
+-- the sink failed at the report
+pub record FailedToWrite (call : Call) : Type 0 where
+  pub text : List ℕ
+  pub cause : IsAnswer call.words call.coming (Report text)
+  pub told : WroteFront call text
+  pub calm : IsCalm call
+
+-- the shelf failed, or has no such file
+pub record FailedToRead (call : Call) : Type 0 where
+  pub cause : IsUnread call.words call.coming call.shelf_before call.shelf_now
+  pub told : Wrote call (fault_text Read) ⊎ WroteFront call (fault_text Read)
+
+-- nothing was written
+pub record RanOutOfMemory (call : Call) : Type 0 where
+  pub kept : call.taken_now ≡ call.taken_before
+  pub sink_calm : call.sink_now ≡ call.sink_before
+  pub calm : IsCalm call
+
+-- the call may end with this status
+abbrev pub Ends : Call → Status → Type 0
+Ends call Done = WasDone call
+Ends call Words = WasRefused call Words
+Ends call Form = WasRefused call Form
+Ends call ReadFault = FailedToRead call
+Ends call WriteFault = FailedToWrite call
+Ends call OutOfMemory = RanOutOfMemory call
+Ends call Draw = WasRefused call Draw
+Ends call TooLong = WasRefused call TooLong
+Ends call _ = ⊥

@@ -1,0 +1,9 @@
+pub mod Answer
+pub mod Ending
+pub mod Fault
+pub mod Lines
+pub mod OrderFile
+pub mod OrderText
+pub mod Status
+pub mod Stop
+pub mod Words

@@ -1,0 +1,49 @@
+-- How a refusal of a part stops a job, and what holds of a job that stopped.
+use Rattle.std.specs.Prelude.{◌≡◌, ◌⊎◌, ℕ, List, Option, Some}
+use Rattle.draw_split.specs.declared.naming.SplitFault.{SplitFault}
+use Rattle.draw_split.specs.declared.naming.SplitFault.TheVariants as split
+use Rattle.surw_base.specs.declared.limits.TheConstants.{FILE_LIMIT}
+use Rattle.surw_io.specs.Cause.{Rose}
+use Rattle.surw_io.specs.declared.whole_file.FetchFault.{FetchFault}
+use Rattle.surw_io.specs.declared.whole_file.FetchFault.TheVariants as fetch
+use Rattle.surw_io.specs.Content.{Entry, Missing}
+use Rattle.surw_cli.specs.Answer.{Coming, IsAnswer, IsOrderAnswer, Refusal}
+use Rattle.surw_cli.specs.Words.{AskForOrder}
+use Rattle.surw_cli.specs.declared.fault.Fault.{Fault}
+use Rattle.surw_cli.specs.declared.fault.Fault.TheVariants.{Words, Lines, Read, Length, Large, TooLong}
+use Rattle.surw_cli.specs.declared.job.Stop.{Stop}
+use Rattle.surw_cli.specs.declared.job.Stop.TheVariants.{Refused, OutOfMemory}
+use Rattle.surw_cli.specs.declared.order_file.FileFault.{FileFault}
+use Rattle.surw_cli.specs.declared.order_file.FileFault.TheVariants as file
+
+abbrev pub stop_of_fetch : FetchFault → Stop
+stop_of_fetch fetch.Failed = Refused Read
+stop_of_fetch (fetch.TooLong taken) = Refused (TooLong FILE_LIMIT)
+stop_of_fetch fetch.OutOfMemory = OutOfMemory
+
+abbrev pub stop_of_file : FileFault → Stop
+stop_of_file (file.Lines number) = Refused (Lines number)
+stop_of_file file.OutOfMemory = OutOfMemory
+
+abbrev pub stop_of_split : SplitFault → Stop
+stop_of_split (split.Length kept needed) = Refused (Length kept needed)
+stop_of_split (split.Large place kept below) = Refused (Large place kept below)
+stop_of_split split.OutOfMemory = OutOfMemory
+
+-- the job `order` stopped so, with the shelf's count of faults going from `before` to `now`
+abbrev pub IsOrderStop : Option Entry → ℕ → ℕ → Stop → Type 0
+IsOrderStop coming before now (Refused Read) = Rose before now ⊎ ((now ≡ before) × IsOrderAnswer coming (Refusal Read))
+IsOrderStop coming before now (Refused fault) = (now ≡ before) × IsOrderAnswer coming (Refusal fault)
+IsOrderStop coming before now OutOfMemory = now ≡ before
+
+-- the words ask for a file, and its reading failed or the shelf tells that it isn't there
+pub record IsUnread (words : List (List ℕ)) (coming : Coming) (before now : ℕ) : Type 0 where
+  pub name : List ℕ
+  pub asked : AskForOrder words name
+  pub cause : Rose before now ⊎ ((now ≡ before) × (coming name ≡ Some Missing))
+
+-- the job that the words ask for stopped so
+abbrev pub IsStop : List (List ℕ) → Coming → ℕ → ℕ → Stop → Type 0
+IsStop words coming before now (Refused Read) = IsUnread words coming before now
+IsStop words coming before now (Refused fault) = (now ≡ before) × IsAnswer words coming (Refusal fault)
+IsStop words coming before now OutOfMemory = now ≡ before

@@ -1,0 +1,18 @@
+//! What follows from the contract of the top call.
+ghost use Rattle.std.specs.Prelude.{◌≢◌};
+
+use crate::status::Status;
+use crate::top::surw_plain;
+use std::alloc::Global;
+use surw_io::{SafeShelf, SafeSink};
+
+/// The top call over devices that never fail, with one file under every name: a read fault or a write fault
+/// never comes.
+pub fn over_safe_devices(alloc: Global, words: &[String], file: &[u8]) -> Status
+    ensures no_read_fault { result ≢ Status.ReadFault }
+    ensures no_write_fault { result ≢ Status.WriteFault }
+{
+    let mut shelf = SafeShelf::new(file, file);
+    let mut out = SafeSink::new();
+    surw_plain(alloc, words, &mut shelf, &mut out)
+}
