@@ -117,9 +117,7 @@ pub fn draws_of(alloc: Global, counts: &[u32], split: &Split) -> Result<Vec<u64>
     ensures only { (draws : List ℕ) → Names counts.now draws split.now → MatchResult result (λ v. v.items ≡ draws) (λ e. e ≡ JoinFault.OutOfMemory) }
     ensures refused { IfErr result (IsRefused counts.now split.now) }
 {
-    fitting(counts, split)?;
-    filled(counts, split)?;
-    in_rooms(counts, split)?;
+    checked(counts, split)?;
     let mut left = Weights::new(counts);
     let mut draws = Vec::with_capacity(alloc, split.order().len())?;
     for thread in split.order() {
@@ -129,6 +127,20 @@ pub fn draws_of(alloc: Global, counts: &[u32], split: &Split) -> Result<Vec<u64>
         left.take(*thread);
     }
     Ok(draws)
+}
+
+// Refuses what no draws name.
+fn checked(counts: &[u32], split: &Split) -> Result<(), JoinFault>
+    requires threads { length counts.now ≤ THREADS }
+    requires order { length split.now.order ≤ STEPS }
+    requires offsets { All (λ list. length list ≤ STEPS) split.now.offsets }
+    ensures fits { OnOk result (Fits counts.now split.now.order) }
+    ensures rooms { OnOk result (AreInRooms counts.now split.now.offsets) }
+    ensures refused { IfErr result (IsRefused counts.now split.now) }
+{
+    fitting(counts, split)?;
+    filled(counts, split)?;
+    in_rooms(counts, split)
 }
 
 // Refuses an order that doesn't fit.

@@ -45,6 +45,8 @@ fn what_no_draws_name_is_refused(rt: HostRuntime) -> Result<(), Fail> {
         below: 2,
     };
     assert_eq!(rt; outside, Some(fault));
+    let text = format!(in rt.alloc(); "{fault}")?;
+    assert_eq!(rt; text.as_str(), "offset 0 of thread 0 is 2 and not below 2");
     let few = joined(rt.alloc(), &[zero, one, zero], &[1], &[0])?.err();
     let fault = JoinFault::Offsets {
         thread: zero,

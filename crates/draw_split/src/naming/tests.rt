@@ -73,7 +73,7 @@ fn draws_name_an_order_and_offsets(rt: HostRuntime) -> Result<(), Fail> {
 }
 
 #[test]
-fn draws_that_name_no_order_are_refused(rt: HostRuntime) {
+fn draws_that_name_no_order_are_refused(rt: HostRuntime) -> Result<(), Fail> {
     let large = SplitFault::Large {
         place: 0,
         kept: 3,
@@ -86,4 +86,7 @@ fn draws_that_name_no_order_are_refused(rt: HostRuntime) {
         &[0, 0],
         SplitFault::Length { kept: 2, needed: 3 },
     );
+    let text = format!(in rt.alloc(); "{large}")?;
+    assert_eq!(rt; text.as_str(), "draw 0 is 3 and not below 3");
+    Ok(())
 }

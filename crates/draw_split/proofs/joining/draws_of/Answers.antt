@@ -6,17 +6,9 @@ use Rattle.draw_split.proofs.Joined.{join-next, names-all, names-one, next_offse
 use Rattle.draw_split.proofs.Refused.{refused-only}
 use Rattle.draw_split.proofs.joining.draws_of.Goals as goal
 
-pub returns-in_err-fitting-clause-only : goal.returns-in_err-fitting-clause-only
-returns-in_err-fitting-clause-only c =
-    let p = err_from_is_err_and c.from_residual.result c.from_residual.ensures.1 in rw (p.1, p.2) (refused-only _ _ _ c.in_err-fitting.ensures.refused)
-
-pub returns-in_err-filled-clause-only : goal.returns-in_err-filled-clause-only
-returns-in_err-filled-clause-only c =
-    let p = err_from_is_err_and c.from_residual-in_err-filled.result c.from_residual-in_err-filled.ensures.1 in rw (p.1, p.2) (refused-only _ _ _ c.in_err-filled.ensures.refused)
-
-pub returns-in_err-in_rooms-clause-only : goal.returns-in_err-in_rooms-clause-only
-returns-in_err-in_rooms-clause-only c =
-    let p = err_from_is_err_and c.from_residual-in_err-in_rooms.result c.from_residual-in_err-in_rooms.ensures.1 in rw (p.1, p.2) (refused-only _ _ _ c.in_err-in_rooms.ensures.refused)
+pub returns-in_err-checked-clause-only : goal.returns-in_err-checked-clause-only
+returns-in_err-checked-clause-only c =
+    let p = err_from_is_err_and c.from_residual.result c.from_residual.ensures.1 in rw (p.1, p.2) (refused-only _ _ _ c.in_err-checked.ensures.refused)
 
 pub loop-thread-preserved : goal.loop-thread-preserved
 loop-thread-preserved c =
@@ -42,9 +34,9 @@ loop-thread-preserved c =
 pub returns-clause-ok : goal.returns-clause-ok
 returns-clause-ok c =
     let past : length c.args.split.now.order ≤ c.loop-thread.thread-index = subst (λ (l : List ℕ). length l ≤ c.loop-thread.thread-index) c.order-thread-items.ensures c.loop-thread-test.false in
-    names-all _ _ _ _ _ c.loop-thread.invariant past c.in_ok-fitting.ensures.ok c.in_ok-in_rooms.ensures.ok
+    names-all _ _ _ _ _ c.loop-thread.invariant past c.in_ok-checked.ensures.fits c.in_ok-checked.ensures.rooms
 
 pub returns-clause-only : goal.returns-clause-only
 returns-clause-only c draws names =
     let past : length c.args.split.now.order ≤ c.loop-thread.thread-index = subst (λ (l : List ℕ). length l ≤ c.loop-thread.thread-index) c.order-thread-items.ensures c.loop-thread-test.false in
-    names-one _ _ _ _ (names-all _ _ _ _ _ c.loop-thread.invariant past c.in_ok-fitting.ensures.ok c.in_ok-in_rooms.ensures.ok) names
+    names-one _ _ _ _ (names-all _ _ _ _ _ c.loop-thread.invariant past c.in_ok-checked.ensures.fits c.in_ok-checked.ensures.rooms) names
