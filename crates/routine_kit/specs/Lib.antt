@@ -1,0 +1,5 @@
+pub mod Adder
+pub mod AnyRoutine
+pub mod Line
+pub mod Run
+pub mod Steps

@@ -1,0 +1,20 @@
+//! The threads of a test: routines that announce an event, are told its reply, and announce the next.
+#![tactic(auto)]
+
+mod adder;
+mod any_routine;
+mod line;
+mod lines;
+mod operand;
+mod routine;
+mod shape;
+mod steps;
+
+pub use adder::Adder;
+pub use any_routine::AnyRoutine;
+pub use line::Line;
+pub use lines::Lines;
+pub use operand::Operand;
+pub use routine::Routine;
+pub use shape::Shape;
+pub use steps::Steps;

@@ -1,0 +1,45 @@
+use super::*;
+use std::test::Fail;
+
+/// Stores the numbers from `next` to below `end` in cell 0, whatever is replied.
+#[derive(Clone, Copy, Debug, PartialEq, Eq)]
+struct Counter {
+    next: u64,
+    end: u64,
+}
+
+impl Routine for Counter {
+    ghost use Rattle.std.specs.Prelude.{◌+◌, ltb, if◌then◌else◌, None, Some};
+    ghost use Rattle.event_class.specs.declared.event.Event.TheVariants.{Store};
+
+    ghost announced = { λ counter. if ltb counter.next counter.end then Some (Store 0 counter.next) else None };
+
+    ghost after_reply = { λ counter reply. record { next = counter.next + 1; end = counter.end } };
+
+    fn announce(&self) -> Option<Event> {
+        if self.next < self.end {
+            Some(Event::Store { c: 0, v: self.next })
+        } else {
+            None
+        }
+    }
+
+    fn take(&mut self, _reply: u64) {
+        self.next += 1;
+    }
+
+    fn copy(&self, _alloc: Global) -> Result<Counter, OutOfMemory> {
+        Ok(*self)
+    }
+}
+
+#[test]
+fn a_routine_of_the_test_itself(rt: HostRuntime) -> Result<(), Fail> {
+    let mut counter = Counter { next: 7, end: 8 };
+    let copy = counter.copy(rt.alloc())?;
+    assert_eq!(rt; counter.announce(), Some(Event::Store { c: 0, v: 7 }));
+    counter.take(0);
+    assert_eq!(rt; counter.announce(), None);
+    assert_eq!(rt; copy, Counter { next: 7, end: 8 });
+    Ok(())
+}
