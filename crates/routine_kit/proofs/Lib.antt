@@ -1,1 +1,5 @@
+pub mod Replies
+pub mod Run
 pub mod Settle
+pub mod Shapes
+pub mod Words

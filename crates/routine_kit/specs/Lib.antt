@@ -1,5 +1,6 @@
 pub mod Adder
 pub mod AnyRoutine
 pub mod Line
+pub mod LineText
 pub mod Run
 pub mod Steps

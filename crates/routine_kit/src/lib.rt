@@ -4,15 +4,18 @@
 mod adder;
 mod any_routine;
 mod line;
+mod line_text;
 mod lines;
 mod operand;
 mod routine;
 mod shape;
 mod steps;
+mod word;
 
 pub use adder::Adder;
 pub use any_routine::AnyRoutine;
 pub use line::Line;
+pub use line_text::read_line;
 pub use lines::Lines;
 pub use operand::Operand;
 pub use routine::Routine;

@@ -8,7 +8,8 @@ use event_class::Event;
 use std::alloc::Global;
 use surw_base::{LINES, OutOfMemory, TIMES};
 
-/// A routine that runs a list of lines so many times. It has four registers, which are 0 at first.
+/// A routine that runs a list of lines so many times. It has four registers, which are 0 at first and stay from
+/// one time to the next. Lines that announce nothing are done at once when they are reached.
 #[derive(Debug, Drop)]
 pub struct Steps {
     lines: Lines,

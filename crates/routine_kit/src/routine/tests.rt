@@ -1,3 +1,6 @@
+ghost use Rattle.std.specs.Prelude.{◌≡◌, ◌∷◌, [], IsSome};
+ghost use Rattle.routine_kit.specs.Run.{after_replies};
+
 use super::*;
 use std::test::Fail;
 
@@ -33,12 +36,21 @@ impl Routine for Counter {
     }
 }
 
+// One reply, as a definition has it that follows a routine through a list of them.
+#[tactic(auto, unfolding(crate::specs::Run::after_replies))]
+fn tell<R: Routine>(routine: &mut R, reply: u64)
+    requires { IsSome (R.announced routine.old) }
+    ensures { routine.new ≡ after_replies R.after_reply routine.old (reply ∷ []) }
+{
+    routine.take(reply);
+}
+
 #[test]
 fn a_routine_of_the_test_itself(rt: HostRuntime) -> Result<(), Fail> {
     let mut counter = Counter { next: 7, end: 8 };
     let copy = counter.copy(rt.alloc())?;
     assert_eq!(rt; counter.announce(), Some(Event::Store { c: 0, v: 7 }));
-    counter.take(0);
+    tell(&mut counter, 0);
     assert_eq!(rt; counter.announce(), None);
     assert_eq!(rt; copy, Counter { next: 7, end: 8 });
     Ok(())
