@@ -2,4 +2,8 @@
 #![tactic(auto)]
 
 #[cfg(test)]
+mod command;
+#[cfg(test)]
+mod draws;
+#[cfg(test)]
 mod order;

@@ -1,31 +1,7 @@
-use std::alloc::{AllocError, Global};
+use crate::command::{job_of_text, shelf_of, words_of};
 use std::test::Fail;
 use surw_cli::{Status, surw_plain};
 use surw_io::{MemShelf, MemSink};
-
-// The words `order NAME`.
-fn order_words(alloc: Global, name: &str) -> Result<Vec<String>, AllocError> {
-    let mut words = Vec::new(alloc);
-    words.push(String::from_str(alloc, "order")?)?;
-    words.push(String::from_str(alloc, name)?)?;
-    Ok(words)
-}
-
-// A shelf with one file, which is read in small pieces.
-fn shelf_of(alloc: Global, name: &str, bytes: &[u8], fails: &[u32]) -> Result<MemShelf, Fail> {
-    let mut files = Vec::new(alloc);
-    files.push((String::from_str(alloc, name)?, bytes.to_vec(alloc)?))?;
-    Ok(MemShelf::new(alloc, files, 0, 7, fails.to_vec(alloc)?)?)
-}
-
-// The status of the job `order` for the file `f` with this text, and what it printed.
-fn order_of_text(alloc: Global, text: &str) -> Result<(Status, MemSink), Fail> {
-    let words = order_words(alloc, "f")?;
-    let mut shelf = shelf_of(alloc, "f", text.as_bytes(), &[])?;
-    let mut out = MemSink::new(alloc, 1000, 1000, Vec::new(alloc))?;
-    let status = surw_plain(alloc, words.as_slice(), &mut shelf, &mut out);
-    Ok((status, out))
-}
 
 #[test]
 fn draws_name_an_order(rt: HostRuntime) -> Result<(), Fail> {
@@ -62,7 +38,7 @@ fn draws_name_an_order(rt: HostRuntime) -> Result<(), Fail> {
             "order 1 1 1\noffsets 0\noffsets 1 2 1 0\noffsets 2\n",
         ),
     ] {
-        let (status, out) = order_of_text(rt.alloc(), file)?;
+        let (status, out) = job_of_text(rt.alloc(), "order", file)?;
         assert_eq!(rt; status, Status::Done, "{case}");
         assert_eq!(rt; out.taken(), printed.as_bytes(), "{case}");
     }
@@ -111,7 +87,7 @@ fn files_and_draws_are_refused(rt: HostRuntime) -> Result<(), Fail> {
             "fault lines 1\n",
         ),
     ] {
-        let (ended, out) = order_of_text(rt.alloc(), file)?;
+        let (ended, out) = job_of_text(rt.alloc(), "order", file)?;
         assert_eq!(rt; ended, status, "{case}");
         assert_eq!(rt; out.taken(), printed.as_bytes(), "{case}");
     }
@@ -130,6 +106,9 @@ fn words_are_refused(rt: HostRuntime) -> Result<(), Fail> {
         "order a b",
         "sort a",
         "order -a",
+        "draws",
+        "draws a b",
+        "draws -a",
         "run a",
         "Order a",
     ] {
@@ -153,7 +132,7 @@ fn a_file_is_held_to_its_limit(rt: HostRuntime) -> Result<(), Fail> {
         (1_048_577, Status::TooLong, "fault too_long 1048576\n"),
         (1_048_576, Status::Form, "fault lines 1\n"),
     ] {
-        let words = order_words(alloc, "long")?;
+        let words = words_of(alloc, "order", "long")?;
         let mut files = Vec::new(alloc);
         files.push((
             String::from_str(alloc, "long")?,
@@ -214,7 +193,7 @@ fn devices_fail(rt: HostRuntime) -> Result<(), Fail> {
         ),
         ("the sink fails at once", "f", 99, 0, Status::WriteFault, ""),
     ] {
-        let words = order_words(alloc, name)?;
+        let words = words_of(alloc, "order", name)?;
         let mut shelf = shelf_of(alloc, "f", b"counts 2 1\ndraws 0 0 0\n", &[shelf_fails])?;
         // The fault's line goes out whole, the report in pieces of four bytes.
         let piece = if status == Status::ReadFault { 100 } else { 4 };

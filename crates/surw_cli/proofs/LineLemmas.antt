@@ -1,6 +1,6 @@
 -- The first line of a text, and the lines behind it.
-use Rattle.std.proofs.Common.{◌≡◌, ◌≢◌, ℕ, zero, suc, ◌+◌, ◌<◌, ◌≤◌, ◌==◌, Bool, true, false, List, [], ◌∷◌, ◌++◌, cond, length, get_or, take, drop, refl, ap, sym, ◌∙◌, arith, add-one}
-use Rattle.std.proofs.lemmas.Bool.{ne_eqb, eq-eqb}
+use Rattle.std.proofs.Common.{◌≡◌, ◌≢◌, ℕ, zero, suc, ◌<◌, ◌==◌, Bool, true, false, List, [], ◌∷◌, cond, length, get_or, take, drop, refl, ap, arith}
+use Rattle.std.proofs.lemmas.Bool.{ne_eqb}
 use Rattle.surw_cli.specs.Lines.{lines_of, with_first_byte}
 
 -- up to a line feed and not with one: the first line
@@ -28,3 +28,23 @@ lines-one (byte ∷ next ∷ bytes) some none =
 pub lines-none : lines_of [] ≡ []
 unfolding lines_of
 lines-none = refl
+
+-- a text of no bytes has no lines
+pub empty-lines : (text : List ℕ) → (0 < length text → ⊥) → lines_of text ≡ []
+unfolding lines_of
+empty-lines [] none = refl
+empty-lines (byte ∷ bytes) none = absurd (none (omega arith))
+
+first-grows : (byte : ℕ) (lines : List (List ℕ)) → 0 < length (with_first_byte byte lines)
+first-grows byte [] = omega arith
+first-grows byte (line ∷ lines) = omega arith
+
+begins : (byte : ℕ) (test : Bool) (lines : List (List ℕ)) → 0 < length (cond test ([] ∷ lines) (with_first_byte byte lines))
+begins byte true lines = omega arith
+begins byte false lines = first-grows byte lines
+
+-- a text of some bytes has a line
+pub some-line : (text : List ℕ) → 0 < length text → 0 < length (lines_of text)
+unfolding lines_of
+some-line [] some = absurd (omega arith)
+some-line (byte ∷ bytes) some = begins byte _ (lines_of bytes)

@@ -3,21 +3,29 @@ use Rattle.std.proofs.Common.{Result, Ok, Err, OnOk, OnErr, inl, inr, ⊎_elim, 
 use Rattle.surw_io.specs.Cause.{HasCause}
 use Rattle.surw_io.specs.Content.{Entry, HoldsFront, with_end}
 use Rattle.surw_cli.specs.Answer.{HasFile}
-use Rattle.surw_cli.specs.OrderFile.{IsOtherFile}
+use Rattle.surw_cli.specs.DrawsFile.{IsOtherDraws}
+use Rattle.surw_cli.specs.FileFault.{IsOtherFile}
+use Rattle.surw_cli.specs.OrderFile.{IsOtherOrder}
 use Rattle.surw_cli.specs.Ending.{Call, Ends, Wrote, WroteFront}
 use Rattle.surw_cli.specs.Fault.{fault_text, status_of}
-use Rattle.surw_cli.specs.Stop.{IsOrderStop, IsStop, stop_of_file}
+use Rattle.surw_cli.specs.Stop.{IsJobStop, IsStop, stop_of_file}
 use Rattle.surw_cli.specs.declared.fault.Fault.{Fault}
-use Rattle.surw_cli.specs.declared.fault.Fault.TheVariants.{Words, Lines, Read, Length, Large, TooLong}
+use Rattle.surw_cli.specs.declared.fault.Fault.TheVariants.{Words, Lines, Read, Length, Large, Miscount, Offsets, Offset, TooLong}
 use Rattle.surw_cli.specs.declared.job.Stop.TheVariants.{Refused}
-use Rattle.surw_cli.specs.declared.order_file.FileFault.{FileFault}
-use Rattle.surw_cli.specs.declared.order_file.FileFault.TheVariants as file
+use Rattle.surw_cli.specs.declared.file_fault.FileFault.{FileFault}
+use Rattle.surw_cli.specs.declared.file_fault.FileFault.TheVariants as file
+use Rattle.surw_cli.specs.declared.words.Job.TheVariants.{Order, Draws}
 
--- what holds at a fault of an order file is how the job stops
-pub file-stop : (coming : Option Entry) (before now : ℕ) (bytes : List ℕ) (fault : FileFault) → HasFile coming bytes → now ≡ before
-    → IsOtherFile bytes fault → IsOrderStop coming before now (stop_of_file fault)
-file-stop coming before now bytes (file.Lines number) held calm other = (calm, record { bytes = bytes; file = held; wrong = other })
-file-stop coming before now bytes file.OutOfMemory held calm other = calm
+-- what holds at a fault of a job's file is how the job stops
+pub order_file-stop : (coming : Option Entry) (before now : ℕ) (bytes : List ℕ) (fault : FileFault) → HasFile coming bytes → now ≡ before
+    → IsOtherFile (IsOtherOrder bytes) fault → IsJobStop Order coming before now (stop_of_file fault)
+order_file-stop coming before now bytes (file.Lines number) held calm other = (calm, record { bytes = bytes; file = held; wrong = other })
+order_file-stop coming before now bytes file.OutOfMemory held calm other = calm
+
+pub draws_file-stop : (coming : Option Entry) (before now : ℕ) (bytes : List ℕ) (fault : FileFault) → HasFile coming bytes → now ≡ before
+    → IsOtherFile (IsOtherDraws bytes) fault → IsJobStop Draws coming before now (stop_of_file fault)
+draws_file-stop coming before now bytes (file.Lines number) held calm other = (calm, record { bytes = bytes; file = held; wrong = other })
+draws_file-stop coming before now bytes file.OutOfMemory held calm other = calm
 
 -- a job that stopped at a fault, whose line was written or begun, ends with the fault's status
 pub refusal-ends : (call : Call) (fault : Fault) → IsStop call.words call.coming call.shelf_before call.shelf_now (Refused fault)
@@ -27,6 +35,9 @@ refusal-ends call (Lines number) stop told = record { fault = Lines number; is =
 refusal-ends call Read stop told = record { cause = stop; told = told }
 refusal-ends call (Length kept needed) stop told = record { fault = Length kept needed; is = refl; cause = stop.1; told = told; calm = stop.0 }
 refusal-ends call (Large place kept below) stop told = record { fault = Large place kept below; is = refl; cause = stop.1; told = told; calm = stop.0 }
+refusal-ends call (Miscount thread counted seen) stop told = record { fault = Miscount thread counted seen; is = refl; cause = stop.1; told = told; calm = stop.0 }
+refusal-ends call (Offsets thread counted seen) stop told = record { fault = Offsets thread counted seen; is = refl; cause = stop.1; told = told; calm = stop.0 }
+refusal-ends call (Offset thread place kept below) stop told = record { fault = Offset thread place kept below; is = refl; cause = stop.1; told = told; calm = stop.0 }
 refusal-ends call (TooLong limit) stop told = record { fault = TooLong limit; is = refl; cause = stop.1; told = told; calm = stop.0 }
 
 -- what a writer of a text leaves: all of it, or a front where the sink failed

@@ -2,7 +2,7 @@
 use Rattle.std.specs.Prelude.{◌≡◌, ◌⊎◌, ℕ, List, Option}
 use Rattle.surw_io.specs.Cause.{Rose}
 use Rattle.surw_io.specs.Content.{with_end, HoldsFront}
-use Rattle.surw_cli.specs.Answer.{Answer, Report, Refusal, Coming, IsAnswer}
+use Rattle.surw_cli.specs.Answer.{Report, Refusal, Coming, IsAnswer}
 use Rattle.surw_cli.specs.Fault.{fault_text, status_of}
 use Rattle.surw_cli.specs.Stop.{IsUnread}
 use Rattle.surw_cli.specs.declared.fault.Fault.{Fault}

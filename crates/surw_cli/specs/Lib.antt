@@ -1,6 +1,10 @@
 pub mod Answer
+pub mod Counts
+pub mod DrawsFile
+pub mod DrawsText
 pub mod Ending
 pub mod Fault
+pub mod FileFault
 pub mod Lines
 pub mod OrderFile
 pub mod OrderText

@@ -1,5 +1,7 @@
 -- How a refusal of a part stops a job, and what holds of a job that stopped.
 use Rattle.std.specs.Prelude.{◌≡◌, ◌⊎◌, ℕ, List, Option, Some}
+use Rattle.draw_split.specs.declared.joining.JoinFault.{JoinFault}
+use Rattle.draw_split.specs.declared.joining.JoinFault.TheVariants as join
 use Rattle.draw_split.specs.declared.naming.SplitFault.{SplitFault}
 use Rattle.draw_split.specs.declared.naming.SplitFault.TheVariants as split
 use Rattle.surw_base.specs.declared.limits.TheConstants.{FILE_LIMIT}
@@ -7,14 +9,14 @@ use Rattle.surw_io.specs.Cause.{Rose}
 use Rattle.surw_io.specs.declared.whole_file.FetchFault.{FetchFault}
 use Rattle.surw_io.specs.declared.whole_file.FetchFault.TheVariants as fetch
 use Rattle.surw_io.specs.Content.{Entry, Missing}
-use Rattle.surw_cli.specs.Answer.{Coming, IsAnswer, IsOrderAnswer, Refusal}
-use Rattle.surw_cli.specs.Words.{AskForOrder}
-use Rattle.surw_cli.specs.declared.fault.Fault.{Fault}
-use Rattle.surw_cli.specs.declared.fault.Fault.TheVariants.{Words, Lines, Read, Length, Large, TooLong}
+use Rattle.surw_cli.specs.Answer.{Coming, IsAnswer, IsJobAnswer, Refusal}
+use Rattle.surw_cli.specs.Words.{AskFor}
+use Rattle.surw_cli.specs.declared.fault.Fault.TheVariants.{Lines, Read, Length, Large, Miscount, Offsets, Offset, TooLong}
+use Rattle.surw_cli.specs.declared.file_fault.FileFault.{FileFault}
+use Rattle.surw_cli.specs.declared.file_fault.FileFault.TheVariants as file
 use Rattle.surw_cli.specs.declared.job.Stop.{Stop}
 use Rattle.surw_cli.specs.declared.job.Stop.TheVariants.{Refused, OutOfMemory}
-use Rattle.surw_cli.specs.declared.order_file.FileFault.{FileFault}
-use Rattle.surw_cli.specs.declared.order_file.FileFault.TheVariants as file
+use Rattle.surw_cli.specs.declared.words.Job.{Job}
 
 abbrev pub stop_of_fetch : FetchFault → Stop
 stop_of_fetch fetch.Failed = Refused Read
@@ -30,16 +32,23 @@ stop_of_split (split.Length kept needed) = Refused (Length kept needed)
 stop_of_split (split.Large place kept below) = Refused (Large place kept below)
 stop_of_split split.OutOfMemory = OutOfMemory
 
--- the job `order` stopped so, with the shelf's count of faults going from `before` to `now`
-abbrev pub IsOrderStop : Option Entry → ℕ → ℕ → Stop → Type 0
-IsOrderStop coming before now (Refused Read) = Rose before now ⊎ ((now ≡ before) × IsOrderAnswer coming (Refusal Read))
-IsOrderStop coming before now (Refused fault) = (now ≡ before) × IsOrderAnswer coming (Refusal fault)
-IsOrderStop coming before now OutOfMemory = now ≡ before
+abbrev pub stop_of_join : JoinFault → Stop
+stop_of_join (join.Miscount thread counted seen) = Refused (Miscount thread counted seen)
+stop_of_join (join.Offsets thread counted seen) = Refused (Offsets thread counted seen)
+stop_of_join (join.Offset thread place kept below) = Refused (Offset thread place kept below)
+stop_of_join join.OutOfMemory = OutOfMemory
+
+-- the job stopped so, with the shelf's count of faults going from `before` to `now`
+abbrev pub IsJobStop : Job → Option Entry → ℕ → ℕ → Stop → Type 0
+IsJobStop job coming before now (Refused Read) = Rose before now ⊎ ((now ≡ before) × IsJobAnswer job coming (Refusal Read))
+IsJobStop job coming before now (Refused fault) = (now ≡ before) × IsJobAnswer job coming (Refusal fault)
+IsJobStop job coming before now OutOfMemory = now ≡ before
 
 -- the words ask for a file, and its reading failed or the shelf tells that it isn't there
 pub record IsUnread (words : List (List ℕ)) (coming : Coming) (before now : ℕ) : Type 0 where
+  pub job : Job
   pub name : List ℕ
-  pub asked : AskForOrder words name
+  pub asked : AskFor words job name
   pub cause : Rose before now ⊎ ((now ≡ before) × (coming name ≡ Some Missing))
 
 -- the job that the words ask for stopped so

@@ -6,10 +6,10 @@ ghost use Rattle.surw_cli.specs.Lines.{line, list_text};
 
 use crate::status::Status;
 use arrayvec::ArrayVec;
-use surw_base::digits_of;
+use surw_base::{ThreadNo, digits_of};
 use surw_io::{Failed, Sink, put_all};
 
-// The room for a fault's line: the longest has three numbers of at most 20 digits.
+// The room for a fault's line: the longest has four numbers of at most 20 digits.
 const LINE_ROOM: usize = 192;
 
 /// Why a job was refused.
@@ -18,15 +18,45 @@ pub enum Fault {
     /// The words ask for no job.
     Words,
     /// The file's line of this number, from 1, is the first that isn't as asked.
-    Lines { number: u64 },
+    Lines {
+        number: u64,
+    },
     /// The shelf failed, or has no such file.
     Read,
     /// There are `kept` draws, where the counts ask for `needed`.
-    Length { kept: u64, needed: u64 },
+    Length {
+        kept: u64,
+        needed: u64,
+    },
     /// The draw at `place`, from 0, is `kept` and not below `below`.
-    Large { place: u32, kept: u64, below: u64 },
+    Large {
+        place: u32,
+        kept: u64,
+        below: u64,
+    },
+    /// The thread is counted `counted` times, and the order holds it `seen` times.
+    Miscount {
+        thread: ThreadNo,
+        counted: u32,
+        seen: u32,
+    },
+    /// The thread is counted `counted` times, and has `seen` offsets.
+    Offsets {
+        thread: ThreadNo,
+        counted: u32,
+        seen: u32,
+    },
+    /// The thread's offset at `place`, from 0, is `kept` and not below `below`.
+    Offset {
+        thread: ThreadNo,
+        place: u32,
+        kept: u32,
+        below: u32,
+    },
     /// The file has more than `limit` bytes.
-    TooLong { limit: u32 },
+    TooLong {
+        limit: u32,
+    },
 }
 
 impl Fault {
@@ -39,6 +69,7 @@ impl Fault {
             Fault::Lines { .. } => Status::Form,
             Fault::Read => Status::ReadFault,
             Fault::Length { .. } | Fault::Large { .. } => Status::Draw,
+            Fault::Miscount { .. } | Fault::Offsets { .. } | Fault::Offset { .. } => Status::Draw,
             Fault::TooLong { .. } => Status::TooLong,
         }
     }
@@ -66,6 +97,36 @@ impl Fault {
             Fault::Large { place, kept, below } => {
                 list_line(b"fault large", &[u64::from(place), kept, below])
             }
+            Fault::Miscount {
+                thread,
+                counted,
+                seen,
+            } => list_line(
+                b"fault miscount",
+                &[u64::from(thread.get()), u64::from(counted), u64::from(seen)],
+            ),
+            Fault::Offsets {
+                thread,
+                counted,
+                seen,
+            } => list_line(
+                b"fault offsets",
+                &[u64::from(thread.get()), u64::from(counted), u64::from(seen)],
+            ),
+            Fault::Offset {
+                thread,
+                place,
+                kept,
+                below,
+            } => list_line(
+                b"fault offset",
+                &[
+                    u64::from(thread.get()),
+                    u64::from(place),
+                    u64::from(kept),
+                    u64::from(below),
+                ],
+            ),
             Fault::TooLong { limit } => list_line(b"fault too_long", &[u64::from(limit)]),
         }
     }

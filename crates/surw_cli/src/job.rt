@@ -1,14 +1,17 @@
 ghost use Rattle.std.specs.Prelude.{◌≡◌, ℕ, List, map, string_bytes, IfOk, IfErr, OnOk};
 ghost use Rattle.surw_io.specs.Cause.{one_more};
-ghost use Rattle.surw_cli.specs.Answer.{IsAnswer, IsOrderAnswer, Report};
-ghost use Rattle.surw_cli.specs.Stop.{IsStop, IsOrderStop};
-ghost use Rattle.surw_cli.specs.Words.{AskForOrder};
+ghost use Rattle.surw_cli.specs.Answer.{IsAnswer, IsOrderAnswer, IsDrawsAnswer, Report};
+ghost use Rattle.surw_cli.specs.Stop.{IsStop, IsJobStop};
+ghost use Rattle.surw_cli.specs.declared.words.Job.{Job};
+ghost use Rattle.surw_cli.specs.Words.{AskFor};
 
+use crate::draws_file::read_draws_file;
 use crate::fault::Fault;
-use crate::order_file::{FileFault, read_order_file};
-use crate::report::order_text;
-use crate::words::order_name;
-use draw_split::{SplitFault, order_of};
+use crate::file_fault::FileFault;
+use crate::order_file::read_order_file;
+use crate::report::{draws_text, order_text};
+use crate::words::{Job, read_ask};
+use draw_split::{JoinFault, SplitFault, draws_of, order_of};
 use std::alloc::Global;
 use surw_base::{FILE_LIMIT, OutOfMemory};
 use surw_io::{FetchFault, Shelf, fetch};
@@ -68,6 +71,48 @@ impl From<SplitFault> for Stop {
     }
 }
 
+impl From<JoinFault> for Stop {
+    ghost use Rattle.std.specs.Prelude.{◌≡◌};
+    ghost use Rattle.surw_cli.specs.Stop.{stop_of_join};
+
+    ghost from_gives = { λ fault stop. stop ≡ stop_of_join fault };
+
+    fn from(fault: JoinFault) -> Self {
+        match fault {
+            JoinFault::Miscount {
+                thread,
+                counted,
+                seen,
+            } => Stop::Refused(Fault::Miscount {
+                thread,
+                counted,
+                seen,
+            }),
+            JoinFault::Offsets {
+                thread,
+                counted,
+                seen,
+            } => Stop::Refused(Fault::Offsets {
+                thread,
+                counted,
+                seen,
+            }),
+            JoinFault::Offset {
+                thread,
+                place,
+                kept,
+                below,
+            } => Stop::Refused(Fault::Offset {
+                thread,
+                place,
+                kept,
+                below,
+            }),
+            JoinFault::OutOfMemory => Stop::OutOfMemory,
+        }
+    }
+}
+
 impl From<OutOfMemory> for Stop {
     ghost use Rattle.std.specs.Prelude.{◌≡◌};
     ghost use Rattle.surw_cli.specs.declared.job.Stop.TheVariants.{OutOfMemory};
@@ -84,12 +129,16 @@ pub fn report_of<F: Shelf>(alloc: Global, words: &[String], shelf: &mut F) -> Re
     ensures report { IfOk result (λ text. IsAnswer (map string_bytes words.now) (F.coming shelf.old) (Report text.items)) }
     ensures calm { OnOk result (F.in_faults shelf.new ≡ F.in_faults shelf.old) }
     ensures stopped { IfErr result (IsStop (map string_bytes words.now) (F.coming shelf.old) (F.in_faults shelf.old) (F.in_faults shelf.new)) }
-    ensures opened_once { (name : List ℕ) → AskForOrder (map string_bytes words.now) name → F.opens shelf.new ≡ one_more (F.opens shelf.old) }
-    ensures unopened { ((name : List ℕ) → AskForOrder (map string_bytes words.now) name → ⊥) → F.opens shelf.new ≡ F.opens shelf.old }
+    ensures opened_once { (job : Job) (name : List ℕ) → AskFor (map string_bytes words.now) job name → F.opens shelf.new ≡ one_more (F.opens shelf.old) }
+    ensures unopened { ((job : Job) (name : List ℕ) → AskFor (map string_bytes words.now) job name → ⊥) → F.opens shelf.new ≡ F.opens shelf.old }
 {
-    match order_name(words) {
-        Some(name) => report_of_order(alloc, name, shelf),
-        None => Err(Stop::Refused(Fault::Words)),
+    let ask = match read_ask(words) {
+        Some(ask) => ask,
+        None => return Err(Stop::Refused(Fault::Words)),
+    };
+    match ask.job {
+        Job::Order => report_of_order(alloc, ask.name, shelf),
+        Job::Draws => report_of_draws(alloc, ask.name, shelf),
     }
 }
 
@@ -97,11 +146,24 @@ pub fn report_of<F: Shelf>(alloc: Global, words: &[String], shelf: &mut F) -> Re
 fn report_of_order<F: Shelf>(alloc: Global, name: &str, shelf: &mut F) -> Result<Vec<u8>, Stop>
     ensures report { IfOk result (λ text. IsOrderAnswer (F.coming shelf.old name.now) (Report text.items)) }
     ensures calm { OnOk result (F.in_faults shelf.new ≡ F.in_faults shelf.old) }
-    ensures stopped { IfErr result (IsOrderStop (F.coming shelf.old name.now) (F.in_faults shelf.old) (F.in_faults shelf.new)) }
+    ensures stopped { IfErr result (IsJobStop Job.Order (F.coming shelf.old name.now) (F.in_faults shelf.old) (F.in_faults shelf.new)) }
     ensures opened { F.opens shelf.new ≡ one_more (F.opens shelf.old) }
 {
     let bytes = fetch(alloc, shelf, name, FILE_LIMIT)?;
     let file = read_order_file(alloc, bytes.as_slice())?;
     let split = order_of(alloc, file.counts.as_slice(), file.draws.as_slice())?;
     Ok(order_text(alloc, file.counts.threads(), &split)?)
+}
+
+// The report of the job `draws` for the file of a name.
+fn report_of_draws<F: Shelf>(alloc: Global, name: &str, shelf: &mut F) -> Result<Vec<u8>, Stop>
+    ensures report { IfOk result (λ text. IsDrawsAnswer (F.coming shelf.old name.now) (Report text.items)) }
+    ensures calm { OnOk result (F.in_faults shelf.new ≡ F.in_faults shelf.old) }
+    ensures stopped { IfErr result (IsJobStop Job.Draws (F.coming shelf.old name.now) (F.in_faults shelf.old) (F.in_faults shelf.new)) }
+    ensures opened { F.opens shelf.new ≡ one_more (F.opens shelf.old) }
+{
+    let bytes = fetch(alloc, shelf, name, FILE_LIMIT)?;
+    let file = read_draws_file(alloc, bytes.as_slice())?;
+    let draws = draws_of(alloc, file.counts.as_slice(), &file.split)?;
+    Ok(draws_text(alloc, draws.as_slice())?)
 }

@@ -1,7 +1,10 @@
 //! The top call of SURW: words and a shelf of files in, a status and a report out.
 #![tactic(auto)]
 
+mod counts;
+mod draws_file;
 mod fault;
+mod file_fault;
 mod job;
 pub mod laws;
 mod lines;

@@ -1,5 +1,6 @@
 ghost use Rattle.std.specs.Prelude.{◌≡◌, ◌≤◌, ◌∷◌, ◌++◌, [], codes, IfOk, OnOk, slice_index_or};
 ghost use Rattle.std.specs.Fmt.{decimal};
+ghost use Rattle.surw_cli.specs.DrawsText.{draws_text};
 ghost use Rattle.surw_cli.specs.Lines.{line, list_text};
 ghost use Rattle.surw_cli.specs.OrderText.{order_text};
 
@@ -18,6 +19,19 @@ pub fn order_text(alloc: Global, threads: usize, split: &Split) -> Result<Vec<u8
         let thread = ThreadNo::new(number as u8).unwrap();
         push_offsets(&mut text, thread, split.offsets(thread))?;
     }
+    Ok(text)
+}
+
+/// What the job `draws` prints of some draws.
+pub fn draws_text(alloc: Global, draws: &[u64]) -> Result<Vec<u8>, OutOfMemory>
+    ensures { IfOk result (λ text. text.items ≡ draws_text draws.now) }
+{
+    let mut text = Vec::new(alloc);
+    text.extend_from_slice(b"draws")?;
+    for draw in draws {
+        push_item(&mut text, *draw)?;
+    }
+    text.push(b'\n')?;
     Ok(text)
 }
 

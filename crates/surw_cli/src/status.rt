@@ -10,7 +10,7 @@ pub enum Status {
     Failing,
     /// The words ask for no job.
     Words,
-    /// A scenario or an order file doesn't have its form, or the profile stopped.
+    /// A scenario, an order file or a file of draws doesn't have its form, or the profile stopped.
     Form,
     /// A thread made more or fewer selected events than counted.
     WrongCount,
@@ -26,7 +26,7 @@ pub enum Status {
     WriteFault,
     /// Memory was refused.
     OutOfMemory,
-    /// The draws were too few, too many or too large.
+    /// The draws were too few, too many or too large, or no draws name the order and the offsets.
     Draw,
     /// A file is longer than its limit.
     TooLong,

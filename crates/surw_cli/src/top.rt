@@ -1,7 +1,8 @@
 ghost use Rattle.std.specs.Prelude.{◌≡◌, ℕ, List, map, string_bytes};
 ghost use Rattle.surw_io.specs.Cause.{one_more};
 ghost use Rattle.surw_cli.specs.Ending.{Call, Ends};
-ghost use Rattle.surw_cli.specs.Words.{AskForOrder};
+ghost use Rattle.surw_cli.specs.declared.words.Job.{Job};
+ghost use Rattle.surw_cli.specs.Words.{AskFor};
 
 use crate::job::{Stop, report_of};
 use crate::status::Status;
@@ -30,9 +31,9 @@ pub fn surw_plain<F: Shelf, O: Sink>(
       taken_before = O.taken out.old;
       taken_now = O.taken out.new;
     } in Ends call result }
-    ensures opened_once { (name : List ℕ) → AskForOrder (map string_bytes words.now) name
+    ensures opened_once { (job : Job) (name : List ℕ) → AskFor (map string_bytes words.now) job name
         → F.opens shelf.new ≡ one_more (F.opens shelf.old) }
-    ensures unopened { ((name : List ℕ) → AskForOrder (map string_bytes words.now) name → ⊥)
+    ensures unopened { ((job : Job) (name : List ℕ) → AskFor (map string_bytes words.now) job name → ⊥)
         → F.opens shelf.new ≡ F.opens shelf.old }
 {
     match report_of(alloc, words, shelf) {

@@ -1,7 +1,8 @@
-use Rattle.std.proofs.Common.{◌≡◌, ◌≤◌, length, subst, ap, List, ℕ, sym, ◌∙◌}
+use Rattle.std.proofs.Common.{subst, List, ℕ}
 use Rattle.std.proofs.lemmas.Result.{err_from_is_err_and}
-use Rattle.surw_cli.proofs.Stops.{file-stop}
-use Rattle.surw_cli.specs.OrderFile.{IsOtherFile}
+use Rattle.surw_cli.proofs.Stops.{order_file-stop}
+use Rattle.surw_cli.specs.FileFault.{IsOtherFile}
+use Rattle.surw_cli.specs.OrderFile.{IsOtherOrder}
 use Rattle.surw_cli.proofs.job.report_of_order.Goals as goal
 
 pub returns-in_err-file-clause-stopped : goal.returns-in_err-file-clause-stopped
@@ -9,6 +10,6 @@ returns-in_err-file-clause-stopped g c =
     let p = err_from_is_err_and c.from_residual-in_err-file.result c.from_residual-in_err-file.ensures.1 in
     let bytes = c.in_ok-bytes.ensures in
     let read = c.as_slice.ensures.value in
-    rw (p.1, p.2) (file-stop _ _ _ c.in_ok-bytes.bytes.items c.in_err-file.field-0.0
+    rw (p.1, p.2) (order_file-stop _ _ _ c.in_ok-bytes.bytes.items c.in_err-file.field-0.0
     (record { held = bytes.whole; short = bytes.short }) bytes.calm
-    (subst (λ (b : List ℕ). IsOtherFile b c.in_err-file.field-0.0) read c.in_err-file.ensures.wrong))
+    (subst (λ (b : List ℕ). IsOtherFile (IsOtherOrder b) c.in_err-file.field-0.0) read c.in_err-file.ensures.wrong))

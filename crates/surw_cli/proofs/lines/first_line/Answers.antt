@@ -1,7 +1,6 @@
-use Rattle.std.proofs.Common.{◌≡◌, length, take, drop, ◌∷◌, ap, ◌∙◌, sym, arith, add-one, ◌+◌, suc}
+use Rattle.std.proofs.Common.{arith, add-one, ◌+◌}
 use Rattle.std.proofs.lemmas.Bool.{eqb-true, eq-eqb}
 use Rattle.std.proofs.lemmas.List.{take_rest}
-use Rattle.surw_cli.specs.Lines.{lines_of}
 use Rattle.surw_cli.proofs.LineLemmas.{lines-split, lines-one, lines-none}
 use Rattle.surw_cli.proofs.lines.first_line.Goals as goal
 

@@ -1,4 +1,4 @@
-use Rattle.std.proofs.Common.{◌≡◌, ap, ◌∙◌, drop}
+use Rattle.std.proofs.Common.{ap, ◌∙◌, drop}
 use Rattle.surw_base.proofs.Fronts.{number-again, number-some}
 use Rattle.surw_cli.proofs.lines.read_item.Goals as goal
 

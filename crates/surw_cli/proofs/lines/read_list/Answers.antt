@@ -1,8 +1,8 @@
-use Rattle.std.proofs.Common.{Some, None, ◌≡◌, ℕ, List, ◌<◌, ◌++◌, length, arith, ap, sym, subst, ◌∙◌}
+use Rattle.std.proofs.Common.{Some, None, ℕ, List, ◌<◌, ◌++◌, length, arith, ap, sym, subst, ◌∙◌}
 use Rattle.std.proofs.lemmas.Grind.{common_steps}
 use Rattle.std.proofs.lemmas.Slice.Eq.{strip_prefix_is}
 use Rattle.std.proofs.lemmas.Bool.Decides.{Decides-eqb}
-use Rattle.surw_cli.specs.Lines.{IsListLine, items_text}
+use Rattle.surw_cli.specs.Lines.{items_text}
 use Rattle.surw_cli.proofs.ItemLemmas.{AreRead, more-read, stuck, read-whole, read-only, behind-word, none-left}
 use Rattle.surw_cli.proofs.lines.read_list.Goals as goal
 

@@ -1,4 +1,4 @@
-use Rattle.std.proofs.Common.{◌≡◌, ℕ, List, ◌∷◌, [], ◌++◌, ◌+◌, codes, ap, sym, ◌∙◌, append_assoc, slice_index_or, Some, IfSome}
+use Rattle.std.proofs.Common.{◌≡◌, ℕ, List, ◌∷◌, [], ◌++◌, codes, ap, sym, ◌∙◌, append_assoc, slice_index_or}
 use Rattle.std.specs.List.{flat_map, range_with_len}
 use Rattle.surw_cli.specs.Lines.{line, list_text}
 use Rattle.surw_cli.specs.OrderText.{offsets_line}

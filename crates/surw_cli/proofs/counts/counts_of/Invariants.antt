@@ -1,6 +1,6 @@
 use Rattle.std.proofs.Common.{◌≡◌, ◌≤◌, length, take, sum}
 use Rattle.surw_base.specs.declared.limits.TheConstants.{STEPS, THREADS}
-use Rattle.surw_cli.proofs.order_file.counts_of.Given as goal
+use Rattle.surw_cli.proofs.counts.counts_of.Given as goal
 
 abbrev pub invariant-loop-place : goal.invariant-loop-place
 invariant-loop-place l = record {
