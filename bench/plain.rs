@@ -1,4 +1,4 @@
-// The job `draws` as an ordinary, fast Rust program, to compare with.
+// The jobs `order` and `draws` as an ordinary, fast Rust program, to compare with.
 use std::io::Write;
 use std::process::exit;
 
@@ -39,9 +39,49 @@ fn push_number(out: &mut Vec<u8>, mut n: u64) {
     out.extend_from_slice(&digits[at..]);
 }
 
-fn main() {
-    let name = std::env::args().nth(2).unwrap();
-    let bytes = std::fs::read(name).unwrap();
+fn order(bytes: &[u8]) -> Vec<u8> {
+    let mut lines = bytes.split(|b| *b == b'\n');
+    let counts = list(b"counts", lines.next().unwrap()).unwrap();
+    let draws = list(b"draws", lines.next().unwrap()).unwrap();
+    let n: u64 = counts.iter().sum();
+    if counts.len() > THREADS || n > STEPS || draws.len() as u64 != n {
+        exit(11);
+    }
+    let mut left: Vec<u32> = counts.iter().map(|c| *c as u32).collect();
+    let mut order: Vec<u8> = Vec::with_capacity(draws.len());
+    let mut offsets: Vec<Vec<u32>> = counts.iter().map(|c| Vec::with_capacity(*c as usize)).collect();
+    for (k, draw) in draws.iter().enumerate() {
+        if *draw >= n - k as u64 {
+            exit(11);
+        }
+        let mut rest = *draw as u32;
+        let mut thread = 0;
+        while rest >= left[thread] {
+            rest -= left[thread];
+            thread += 1;
+        }
+        left[thread] -= 1;
+        order.push(thread as u8);
+        offsets[thread].push(rest);
+    }
+    let mut out = Vec::new();
+    out.extend_from_slice(b"order");
+    for thread in &order {
+        push_number(&mut out, u64::from(*thread));
+    }
+    out.push(b'\n');
+    for (thread, list) in offsets.iter().enumerate() {
+        out.extend_from_slice(b"offsets");
+        push_number(&mut out, thread as u64);
+        for offset in list {
+            push_number(&mut out, u64::from(*offset));
+        }
+        out.push(b'\n');
+    }
+    out
+}
+
+fn draws(bytes: &[u8]) -> Vec<u8> {
     let mut lines = bytes.split(|b| *b == b'\n');
     let counts = list(b"counts", lines.next().unwrap()).unwrap();
     let order = list(b"order", lines.next().unwrap()).unwrap();
@@ -89,5 +129,12 @@ fn main() {
         push_number(&mut out, *draw);
     }
     out.push(b'\n');
+    out
+}
+
+fn main() {
+    let words: Vec<String> = std::env::args().collect();
+    let bytes = std::fs::read(&words[2]).unwrap();
+    let out = if words[1] == "order" { order(&bytes) } else { draws(&bytes) };
     std::io::stdout().write_all(&out).unwrap();
 }
