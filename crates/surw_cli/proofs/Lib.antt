@@ -6,3 +6,4 @@ pub mod OffsetsLines
 pub mod Stops
 pub mod Threads
 pub mod WrongLines
+pub mod Safe

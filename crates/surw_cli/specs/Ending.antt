@@ -2,7 +2,7 @@
 use Rattle.std.specs.Prelude.{◌≡◌, ◌⊎◌, ℕ, List, Option}
 use Rattle.surw_io.specs.Cause.{Rose}
 use Rattle.surw_io.specs.Content.{with_end, HoldsFront}
-use Rattle.surw_cli.specs.Answer.{Report, Refusal, Coming, IsAnswer}
+use Rattle.surw_cli.specs.Answer.{Answer, Report, Refusal, Coming, IsAnswer}
 use Rattle.surw_cli.specs.Fault.{fault_text, status_of}
 use Rattle.surw_cli.specs.Stop.{IsUnread}
 use Rattle.surw_cli.specs.declared.fault.Fault.{Fault}
@@ -79,3 +79,14 @@ Ends call OutOfMemory = RanOutOfMemory call
 Ends call Draw = WasRefused call Draw
 Ends call TooLong = WasRefused call TooLong
 Ends call _ = ⊥
+
+-- the status of an answer
+abbrev pub answer_status : Answer → Status
+answer_status (Report text) = Done
+answer_status (Refusal fault) = status_of fault
+
+-- the status is that of the answer to the words
+pub record IsAnswered (words : List (List ℕ)) (coming : Coming) (status : Status) : Type 0 where
+  pub answer : Answer
+  pub cause : IsAnswer words coming answer
+  pub is : status ≡ answer_status answer

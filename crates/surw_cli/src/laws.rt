@@ -1,5 +1,7 @@
 //! What follows from the contract of the top call.
-ghost use Rattle.std.specs.Prelude.{◌≢◌};
+ghost use Rattle.std.specs.Prelude.{◌≡◌, ◌≢◌, ◌⊎◌, Some, map, string_bytes};
+ghost use Rattle.surw_cli.specs.Ending.{IsAnswered};
+ghost use Rattle.surw_io.specs.Content.{File};
 
 use crate::status::Status;
 use crate::top::surw_plain;
@@ -7,10 +9,12 @@ use std::alloc::Global;
 use surw_io::{SafeShelf, SafeSink};
 
 /// The top call over devices that never fail, with one file under every name: a read fault or a write fault
-/// never comes.
+/// never comes, and the status is that of the answer unless memory was refused.
 pub fn over_safe_devices(alloc: Global, words: &[String], file: &[u8]) -> Status
     ensures no_read_fault { result ≢ Status.ReadFault }
     ensures no_write_fault { result ≢ Status.WriteFault }
+    ensures answered { (result ≡ Status.OutOfMemory)
+        ⊎ IsAnswered (map string_bytes words.now) (λ _. Some (File file.now)) result }
 {
     let mut shelf = SafeShelf::new(file, file);
     let mut out = SafeSink::new();
