@@ -1,0 +1,3 @@
+pub mod Able
+pub mod Told
+pub mod Wrong

@@ -1,0 +1,130 @@
+-- The first number of a range that passes a test, and threads that are wrong.
+use Rattle.std.proofs.Common.{◌≡◌, ℕ, zero, suc, ◌+◌, ◌-◌, ◌<◌, Bool, true, false, IsTrue, List, length, get_or, sum, Option, Some, None, refl, ap, sym, ◌∙◌, inl, inr, arith}
+use Rattle.std.proofs.lemmas.Bool.{false≢true, cases_Bool, cond-true, cond-false, eqb-false}
+use Rattle.std.proofs.lemmas.List.Elements.{All-get_or}
+use Rattle.std.specs.List.{All, find, range_with_len}
+use Rattle.std.specs.Option.{option_map}
+use Rattle.walk_rules.specs.Seen.{is_able, is_announcing, is_chosen, seen_of, able_threads, kept_to_able}
+use Rattle.walk_rules.specs.Urw.{urw_bound}
+use Rattle.walk_rules.specs.Walk.{is_wrong, first_wrong, wrong_by, counts_down, AreChosenUnder}
+use Rattle.walk_rules.specs.declared.rule.Rule.{Rule}
+use Rattle.walk_rules.specs.declared.rule.Rule.TheVariants.{Urw, Plain}
+use Rattle.walk_rules.specs.declared.seen.Seen.{Seen}
+use Rattle.walk_rules.specs.declared.seen.Seen.TheVariants.{Over, Held, Able}
+use Rattle.walk_rules.proofs.Able.{able-place, able-place-within, kept-positive}
+
+-- no number before it passes
+find-at : (test : ℕ → Bool) (first n k : ℕ) → k < n → ((j : ℕ) → j < k → test (first + j) ≡ false) → test (first + k) ≡ true
+    → find test (range_with_len first n) ≡ Some (first + k)
+find-at test first zero k lt before here = absurd (omega arith)
+find-at test first (suc n) zero lt before here =
+    let same : first ≡ first + 0 = omega arith in
+    cond-true (test first) (Some first) (find test (range_with_len (first + 1) n)) (ap test same ∙ here) ∙ ap Some same
+find-at test first (suc n) (suc k) lt before here =
+    let same : first ≡ first + 0 = omega arith in
+    let next : first + 1 + k ≡ first + suc k = omega arith in
+    cond-false (test first) (Some first) (find test (range_with_len (first + 1) n)) (ap test same ∙ before 0 (omega arith))
+    ∙ find-at test (first + 1) n k (omega arith)
+    (λ j lt. let more : first + 1 + j ≡ first + suc j = omega arith in ap test more ∙ before (suc j) (omega arith)) (ap test next ∙ here)
+    ∙ ap Some next
+
+-- no number passes
+find-none : (test : ℕ → Bool) (first n : ℕ) → ((j : ℕ) → j < n → test (first + j) ≡ false) → find test (range_with_len first n) ≡ None
+find-none test first zero none = refl
+find-none test first (suc n) none =
+    let same : first ≡ first + 0 = omega arith in
+    cond-false (test first) (Some first) (find test (range_with_len (first + 1) n)) (ap test same ∙ none 0 (omega arith))
+    ∙ find-none test (first + 1) n (λ j lt. let more : first + 1 + j ≡ first + suc j = omega arith in ap test more ∙ none (suc j) (omega arith))
+
+some-none : {A : Type 0} (n : ℕ) → Some n ≡ None → A
+some-none n same = cc
+
+first-fails : (test : ℕ → Bool) (first n : ℕ) → find test (range_with_len first (suc n)) ≡ None → test first ≡ false
+first-fails test first n none = elim (cases_Bool (test first)) [
+  | inl passes ↦ some-none first (sym (cond-true (test first) (Some first) (find test (range_with_len (first + 1) n)) passes) ∙ none)
+  | inr fails ↦ fails
+]
+
+-- then each fails
+none-passes : (test : ℕ → Bool) (first n : ℕ) → find test (range_with_len first n) ≡ None → (j : ℕ) → j < n → test (first + j) ≡ false
+none-passes test first zero none j lt = absurd (omega arith)
+none-passes test first (suc n) none zero lt =
+    let same : first + 0 ≡ first = omega arith in ap test same ∙ first-fails test first n none
+none-passes test first (suc n) none (suc j) lt =
+    let next : first + suc j ≡ first + 1 + j = omega arith in
+    let rest = sym (cond-false (test first) (Some first) (find test (range_with_len (first + 1) n)) (first-fails test first n none)) ∙ none in
+    ap test next ∙ none-passes test (first + 1) n rest j (omega arith)
+
+-- whether this thread is wrong
+abbrev pub wrong_at : List ℕ → List Seen → ℕ → Bool
+wrong_at left view thread = is_wrong (get_or left thread 0) (get_or view thread Over)
+
+-- the least thread that is wrong
+pub first-wrong-at : (left : List ℕ) (view : List Seen) (thread : ℕ) → thread < length view
+    → ((j : ℕ) → j < thread → wrong_at left view j ≡ false) → wrong_at left view thread ≡ true → first_wrong left view ≡ Some thread
+first-wrong-at left view thread lt before here =
+    let same : 0 + thread ≡ thread = omega arith in
+    find-at (wrong_at left view) 0 (length view) thread lt
+    (λ j below. let as_is : 0 + j ≡ j = omega arith in ap (wrong_at left view) as_is ∙ before j below)
+    (ap (wrong_at left view) same ∙ here)
+    ∙ ap Some same
+
+-- no thread is wrong
+pub first-wrong-none : (left : List ℕ) (view : List Seen) → ((j : ℕ) → j < length view → wrong_at left view j ≡ false) → first_wrong left view ≡ None
+first-wrong-none left view none =
+    find-none (wrong_at left view) 0 (length view) (λ j lt. let as_is : 0 + j ≡ j = omega arith in ap (wrong_at left view) as_is ∙ none j lt)
+
+-- what the pass over the threads finds
+pub ruleset firsts = (first-wrong-at, first-wrong-none)
+
+-- where none is found no thread is wrong
+pub none-wrong : (left : List ℕ) (view : List Seen) → first_wrong left view ≡ None → (thread : ℕ) → thread < length view → wrong_at left view thread ≡ false
+none-wrong left view none thread lt =
+    let as_is : thread ≡ 0 + thread = omega arith in
+    ap (wrong_at left view) as_is ∙ none-passes (wrong_at left view) 0 (length view) none thread lt
+
+able-announces : (seen : Seen) → IsTrue (is_able seen) → IsTrue (is_announcing seen)
+able-announces Over able = able
+able-announces (Held chosen) able = refl
+able-announces (Able chosen) able = refl
+
+-- a thread with a selected event that isn't wrong has a number left
+left-positive : (left : ℕ) (seen : Seen) → IsTrue (is_chosen seen) → is_wrong left seen ≡ false → 0 < left
+left-positive left Over chosen right = absurd (false≢true chosen)
+left-positive left (Held true) chosen right = let some = eqb-false left 0 right in omega arith
+left-positive left (Held false) chosen right = absurd (false≢true chosen)
+left-positive left (Able true) chosen right = let some = eqb-false left 0 right in omega arith
+left-positive left (Able false) chosen right = absurd (false≢true chosen)
+
+-- where every event is selected, some thread can go on and none is wrong, some number is kept
+pub kept-somewhere : (left : List ℕ) (view : List Seen) → 0 < length (able_threads view) → first_wrong left view ≡ None
+    → All (λ seen. IsTrue (is_announcing seen) → IsTrue (is_chosen seen)) view → 0 < sum (kept_to_able left view)
+kept-somewhere left view some none chosen =
+    let thread : ℕ = get_or (able_threads view) 0 0 in
+    let within : thread < length view = able-place-within view 0 some in
+    let able : IsTrue (is_able (seen_of view thread)) = able-place view 0 some in
+    let announces = able-announces (seen_of view thread) able in
+    let selected = All-get_or (λ seen. IsTrue (is_announcing seen) → IsTrue (is_chosen seen)) view thread Over within chosen announces in
+    kept-positive left view thread able (left-positive (get_or left thread 0) (seen_of view thread) selected (none-wrong left view none thread within))
+
+none-mapped : {A B : Type 0} (f : A → B) (found : Option A) → option_map f found ≡ None → found ≡ None
+none-mapped f (Some x) same = cc
+none-mapped f None same = refl
+
+right-first : (counts left : List ℕ) (view : List Seen) → wrong_by Urw counts left view ≡ None → first_wrong left view ≡ None
+right-first counts left view right =
+    let named : ℕ → ℕ × ℕ × ℕ = λ thread. (thread, get_or counts thread 0, get_or counts thread 0 - get_or left thread 0) in
+    none-mapped named (first_wrong left view) right
+
+-- the bound of a pick under URW is at least 1
+pub urw-some : (rule : Rule) (counts left : List ℕ) (view : List Seen) → rule ≡ Urw → 0 < length (able_threads view)
+    → wrong_by rule counts left view ≡ None → AreChosenUnder rule view → 0 < urw_bound left view
+urw-some Urw counts left view is some right chosen = kept-somewhere left view some (right-first counts left view right) chosen
+urw-some Plain counts left view is some right chosen = cc
+
+-- where no thread is wrong, one that announces a selected event has a number left
+pub chosen-left : (rule : Rule) (counts left : List ℕ) (view : List Seen) (thread : ℕ) → wrong_by rule counts left view ≡ None
+    → IsTrue (counts_down rule) → thread < length view → IsTrue (is_chosen (seen_of view thread)) → 0 < get_or left thread 0
+chosen-left Urw counts left view thread right counts_it within chosen =
+    left-positive (get_or left thread 0) (seen_of view thread) chosen (none-wrong left view (right-first counts left view right) thread within)
+chosen-left Plain counts left view thread right counts_it within chosen = absurd (false≢true counts_it)

@@ -1,0 +1,7 @@
+pub mod Announced
+pub mod Granted
+pub mod Plain
+pub mod Seen
+pub mod Urw
+pub mod Walk
+pub mod WalkInside

@@ -1,0 +1,35 @@
+-- What a strategy sees of the threads.
+use Rattle.std.specs.Prelude.{ℕ, Bool, true, false, List, [], ◌∷◌, length, slice_index_or, if◌then◌else◌}
+use Rattle.std.specs.List.{filter, range_with_len}
+use Rattle.walk_rules.specs.declared.seen.Seen.{Seen}
+use Rattle.walk_rules.specs.declared.seen.Seen.TheVariants.{Over, Held, Able}
+
+-- whether a thread can go on
+abbrev pub is_able : Seen → Bool
+is_able (Able chosen) = true
+is_able _ = false
+
+-- whether a thread announces an event
+abbrev pub is_announcing : Seen → Bool
+is_announcing Over = false
+is_announcing _ = true
+
+-- whether a thread announces a selected event
+abbrev pub is_chosen : Seen → Bool
+is_chosen Over = false
+is_chosen (Held chosen) = chosen
+is_chosen (Able chosen) = chosen
+
+-- what is seen of a thread; one past the list has ended
+abbrev pub seen_of : List Seen → ℕ → Seen
+seen_of view thread = slice_index_or view thread Over
+
+-- the threads that can go on, rising
+unfoldable pub able_threads : List Seen → List ℕ
+able_threads view = filter (λ thread. is_able (seen_of view thread)) (range_with_len 0 (length view))
+
+-- some numbers with 0 for each thread that can't go on
+unfoldable pub kept_to_able : List ℕ → List Seen → List ℕ
+kept_to_able [] view = []
+kept_to_able (number ∷ numbers) [] = 0 ∷ kept_to_able numbers []
+kept_to_able (number ∷ numbers) (seen ∷ view) = (if is_able seen then number else 0) ∷ kept_to_able numbers view
