@@ -1,0 +1,15 @@
+pub mod Choices
+pub mod Exists
+pub mod Fails
+pub mod Fronts
+pub mod Goings
+pub mod Journals
+pub mod Numbers
+pub mod Picks
+pub mod Positions
+pub mod Scripts
+pub mod Sources
+pub mod TheRun
+pub mod Unique
+pub mod Verdicts
+pub mod Words

@@ -1,0 +1,14 @@
+pub mod Answer
+pub mod Choice
+pub mod Failed
+pub mod Journal
+pub mod Legal
+pub mod Made
+pub mod PlainChoice
+pub mod Plan
+pub mod Position
+pub mod Run
+pub mod Setup
+pub mod Told
+pub mod UrwChoice
+pub mod Verdict

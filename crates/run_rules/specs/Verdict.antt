@@ -1,0 +1,70 @@
+-- The verdict at a position.
+use Rattle.std.specs.Prelude.{ℕ, ◌==◌, ◌&&◌, Bool, ltb, nat_le, List, [], ◌∷◌, length, slice_index, slice_index_or, Option, None, Some, is_some, if◌then◌else◌}
+use Rattle.std.specs.List.{find, list_any, range_with_len}
+use Rattle.std.specs.Option.{option_map}
+use Rattle.event_class.specs.declared.event.Event.{Event}
+use Rattle.event_class.specs.declared.pickable.Pickable.{Pickable}
+use Rattle.event_class.specs.Selection.{has}
+use Rattle.walk_rules.specs.declared.picked.Picked.{Picked}
+use Rattle.walk_rules.specs.declared.picked.Picked.TheVariants.{Grant, Stop}
+use Rattle.walk_rules.specs.declared.rule.Rule.{Rule}
+use Rattle.walk_rules.specs.declared.rule.Rule.TheVariants.{Urw, Plain}
+use Rattle.walk_rules.specs.Seen.{is_able}
+use Rattle.run_rules.specs.declared.verdict.Verdict.{Verdict}
+use Rattle.run_rules.specs.declared.verdict.Verdict.TheVariants.{Ended, Deadlock, WrongCount, Draw, StepLimit}
+use Rattle.run_rules.specs.Choice.{choice}
+use Rattle.run_rules.specs.Made.{events_made}
+use Rattle.run_rules.specs.Position.{Position, seen_at}
+use Rattle.run_rules.specs.Setup.{Setup}
+
+-- whether a thread has no word and made fewer events than counted, or announces a selected event and made no fewer
+abbrev pub is_miscounted : List Pickable → ℕ → ℕ → Option Event → Bool
+is_miscounted selection counted made None = ltb made counted
+is_miscounted selection counted made (Some event) = has selection event && nat_le counted made
+
+-- the least such thread
+abbrev pub first_miscounted : Setup → Position → Option ℕ
+first_miscounted setup x =
+    find (λ thread. is_miscounted setup.selection (slice_index setup.counts thread) (events_made setup.selection x.journal thread) (slice_index_or x.words thread None))
+    (range_with_len 0 (length x.words))
+
+-- a wrong count, which URW alone looks at
+abbrev pub wrong_count : Rule → Setup → Position → Option Verdict
+wrong_count Urw setup x =
+    option_map (λ thread. WrongCount (length x.journal) thread (slice_index setup.counts thread) (events_made setup.selection x.journal thread))
+    (first_miscounted setup x)
+wrong_count Plain setup x = None
+
+-- no thread has a word
+abbrev pub ended : Position → Option Verdict
+ended x = if list_any is_some x.words then None else Some Ended
+
+-- the journal is as long as it may be
+abbrev pub step_limit : Setup → Position → Option Verdict
+step_limit setup x = if length x.journal == setup.max_steps then Some (StepLimit (length x.journal)) else None
+
+-- no thread is able
+abbrev pub deadlock : Setup → Position → Option Verdict
+deadlock setup x = if list_any is_able (seen_at setup x) then None else Some (Deadlock (length x.journal))
+
+-- the choice is a refusal
+abbrev pub refused : ℕ → Picked → Option Verdict
+refused step (Grant thread forced) = None
+refused step (Stop fault) = Some (Draw step fault)
+
+-- the first of some verdicts
+abbrev pub first_of : List (Option Verdict) → Option Verdict
+first_of [] = None
+first_of (None ∷ rest) = first_of rest
+first_of (Some verdict ∷ rest) = Some verdict
+
+-- the verdict at a position, or none where the run goes on
+unfoldable pub verdict_at : Setup → Position → Option Verdict
+verdict_at setup x =
+    first_of
+    (wrong_count setup.rule setup x
+    ∷ ended x
+    ∷ step_limit setup x
+    ∷ deadlock setup x
+    ∷ refused (length x.journal) (choice setup x)
+    ∷ [])
