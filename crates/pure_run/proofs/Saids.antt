@@ -1,0 +1,76 @@
+-- A core after a word was said: its journal stands as it did.
+use Rattle.std.proofs.Common.{◌≡◌, ℕ, zero, suc, ◌+◌, ◌-◌, ◌<◌, ◌≤◌, List, [], ◌∷◌, ◌++◌, length, map, take, set, Option, Some, refl, ap, sym, subst, ◌∙◌, arith}
+use Rattle.std.proofs.lemmas.List.{length-set, length-take-le, map-set, take_all}
+use Rattle.std.proofs.lemmas.Option.{none-some, slice_get_within}
+use Rattle.std.specs.List.{slice_get}
+use Rattle.event_class.specs.declared.event.Event.{Event}
+use Rattle.run_rules.specs.declared.entry.Entry.{Entry}
+use Rattle.run_rules.specs.Position.{earlier, position_at}
+use Rattle.run_rules.specs.Run.{GoesOnWith}
+use Rattle.run_rules.specs.Setup.{Setup}
+use Rattle.run_rules.proofs.Fronts.{next-at}
+use Rattle.run_rules.proofs.Positions.{map-range-same, position-again}
+use Rattle.pure_run.specs.declared.word.Word.{Word}
+use Rattle.pure_run.specs.declared.word.Word.TheVariants.{Due, Said}
+use Rattle.pure_run.specs.Core.{last_word, position_in}
+use Rattle.pure_run.specs.Kept.{IsKept, IsKeptEntry}
+use Rattle.pure_run.proofs.Tests.{set-twice}
+
+-- a position before the last entry doesn't depend on the word of that entry's thread
+at-front : (front : List Entry) (entry : Entry) (words : List (Option Event)) (thread : ℕ) (word : Option Event) (k : ℕ)
+    → thread ≡ entry.thread → k ≤ length front
+    → position_at (record { journal = front ++ entry ∷ []; words = set words thread word }) k ≡ position_at (record { journal = front ++ entry ∷ []; words = words }) k
+at-front front entry words thread word k same within =
+    let before : List (Option Event) = set words entry.thread (Some entry.event) in
+    let twice : set (set words thread word) entry.thread (Some entry.event) ≡ before =
+    ap (λ t. set (set words t word) entry.thread (Some entry.event)) same ∙ set-twice words entry.thread word (Some entry.event) in
+    position-again front entry before (set words thread word) k twice within
+    ∙ sym (position-again front entry before words k refl within)
+
+pub position-said : (journal : List Entry) (words : List (Option Event)) (thread : ℕ) (word : Option Event)
+    → ((entry : Entry) → slice_get journal (length journal - 1) ≡ Some entry → thread ≡ entry.thread)
+    → (k : ℕ) → k < length journal
+    → position_at (record { journal = journal; words = set words thread word }) k ≡ position_at (record { journal = journal; words = words }) k
+position-said journal words thread word last k within =
+    let n : ℕ = length journal - 1 in
+    let step = next-at journal n (omega (arith, within)) in
+    let e : n + 1 ≡ length journal = omega (arith, within) in
+    let whole : take n journal ++ step.item ∷ [] ≡ journal = sym step.cut ∙ ap (λ m. take m journal) e ∙ take_all (length journal) journal (omega arith) in
+    let front : k ≤ length (take n journal) = omega (arith, within, length-take-le n journal (omega arith)) in
+    subst (λ entries. position_at (record { journal = entries; words = set words thread word }) k ≡ position_at (record { journal = entries; words = words }) k)
+    whole (at-front (take n journal) step.item words thread word k (last step.item step.there) front)
+
+-- the word of no other thread becomes due
+due-other : (words : List Word) (thread : ℕ) (event : Option Event) (other : ℕ) → slice_get (set words thread (Said event)) other ≡ Some Due → slice_get words other ≡ Some Due
+due-other [] thread event other at = absurd (none-some Due at)
+due-other (word ∷ words) zero event zero at = cc
+due-other (word ∷ words) zero event (suc other) at = at
+due-other (word ∷ words) (suc thread) event zero at = at
+due-other (word ∷ words) (suc thread) event (suc other) at = due-other words thread event other at
+
+module _ (setup : Setup) (journal : List Entry) (words : List Word) (thread : ℕ) (event : Option Event)
+    (kept : IsKept setup journal words) (due : slice_get words thread ≡ Some Due) where
+  abbrev pub said : List Word
+  said = set words thread (Said event)
+
+  pub said-words : map last_word said ≡ set (map last_word words) thread event
+  said-words = map-set last_word words thread (Said event)
+
+  pub said-before : (k : ℕ) → k < length journal → position_at (position_in journal said) k ≡ position_at (position_in journal words) k
+  said-before k within =
+      ap (λ last. position_at (record { journal = journal; words = last }) k) said-words
+      ∙ position-said journal (map last_word words) thread event (λ entry at. kept.last_due entry thread at due) k within
+
+  pub said-earlier : earlier (position_in journal said) ≡ earlier (position_in journal words)
+  unfolding earlier
+  said-earlier = map-range-same (position_at (position_in journal said)) (position_at (position_in journal words)) (length journal) said-before
+
+  pub kept-said : IsKept setup journal said
+  kept-said = record {
+    valid = kept.valid;
+    each = length-set words thread (Said event) ∙ kept.each;
+    short = kept.short;
+    entries = λ k entry at. subst (λ x. IsKeptEntry setup x entry) (sym (said-before k (slice_get_within journal k entry at))) (kept.entries k entry at);
+    going = λ k entry at. subst (λ x. GoesOnWith setup x entry) (sym (said-before k (slice_get_within journal k entry at))) (kept.going k entry at);
+    last_due = λ entry other at now. kept.last_due entry other at (due-other words thread event other now);
+  }

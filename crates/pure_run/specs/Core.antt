@@ -1,0 +1,86 @@
+-- What a core is seen as, and what it decides.
+use Rattle.std.specs.Prelude.{◌≡◌, ℕ, Bool, true, false, List, [], ◌∷◌, ◌++◌, map, replicate, slice_get, slice_set, slice_index_or, Option, None, Some, is_some, IsTrue, IsSomeAnd, if◌then◌else◌}
+use Rattle.std.specs.List.{list_any}
+use Rattle.event_class.specs.declared.event.Event.{Event}
+use Rattle.seed_draws.specs.Answers.{Source}
+use Rattle.test_world.specs.World.{is_enabled}
+use Rattle.walk_rules.specs.declared.picked.Picked.{Picked}
+use Rattle.walk_rules.specs.declared.picked.Picked.TheVariants.{Grant, Stop}
+use Rattle.run_rules.specs.declared.entry.Entry.{Entry}
+use Rattle.run_rules.specs.declared.verdict.Verdict.{Verdict}
+use Rattle.run_rules.specs.Choice.{choice}
+use Rattle.run_rules.specs.Position.{Position, world_at}
+use Rattle.run_rules.specs.Setup.{Setup}
+use Rattle.run_rules.specs.Verdict.{verdict_at}
+use Rattle.pure_run.specs.declared.word.Word.{Word}
+use Rattle.pure_run.specs.declared.word.Word.TheVariants.{Due, Said}
+use Rattle.pure_run.specs.Opened.{OpenedWith, setup_in}
+
+-- what it was opened with, the journal, and what each thread has said since its last step
+pub record CoreState (S O : Type 0) : Type 0 where
+  pub opened : OpenedWith S O
+  pub journal : List Entry
+  pub words : List Word
+
+-- a core as it is opened: no thread has said anything
+abbrev pub opened_core : {S O : Type 0} → OpenedWith S O → CoreState S O
+opened_core opened = record { opened = opened; journal = []; words = replicate opened.threads Due }
+
+-- a core after a thread has said its word
+abbrev pub after_word : {S O : Type 0} → CoreState S O → ℕ → Option Event → CoreState S O
+after_word core thread event = record core { words = slice_set core.words thread (Said event) }
+
+-- a core after an entry, whose thread has to say its word
+abbrev pub after_entry : {S O : Type 0} → CoreState S O → Entry → CoreState S O
+after_entry core entry = record core { journal = core.journal ++ entry ∷ []; words = slice_set core.words entry.thread Due }
+
+-- whether a word is due
+abbrev pub is_due : Word → Bool
+is_due Due = true
+is_due (Said event) = false
+
+-- the last word of a thread: one whose word is due has none
+abbrev pub last_word : Word → Option Event
+last_word Due = None
+last_word (Said event) = event
+
+-- the position of a journal and what the threads have said
+abbrev pub position_in : List Entry → List Word → Position
+position_in journal words = record { journal = journal; words = map last_word words }
+
+-- the position of a core
+abbrev pub position : {S O : Type 0} → CoreState S O → Position
+position core = position_in core.journal core.words
+
+-- the setup of a core: its two sources are known by what they answered when it was opened
+abbrev pub setup_by : {S O : Type 0} → (S → Source) → (O → Source) → CoreState S O → Setup
+setup_by selected other core = setup_in (selected core.opened.selected) (other core.opened.other) core.opened
+
+-- the verdict of a core: none while a word is due
+abbrev pub verdict_of : {S O : Type 0} → Setup → CoreState S O → Option Verdict
+verdict_of setup core = if list_any is_due core.words then None else verdict_at setup (position core)
+
+-- the thread that a choice grants a step
+abbrev pub thread_of : Picked → Option ℕ
+thread_of (Grant thread forced) = Some thread
+thread_of (Stop fault) = None
+
+-- the thread that a core grants a step: none while a word is due, and where there is a verdict
+abbrev pub granted_of : {S O : Type 0} → Setup → CoreState S O → Option ℕ
+granted_of setup core =
+    if list_any is_due core.words then None
+    else (if is_some (verdict_at setup (position core)) then None else thread_of (choice setup (position core)))
+
+-- a thread announces an event that is enabled
+abbrev pub IsAble : {S O : Type 0} → Setup → CoreState S O → ℕ → Type 0
+IsAble setup core thread =
+    IsSomeAnd (slice_index_or (position core).words thread None) (λ event. IsTrue (is_enabled (world_at setup (position core)) event))
+
+-- a thread is granted the step of this event: no word is due, there is no verdict, the choice is the thread with this
+-- mark, and the event that it announces is enabled
+pub record IsGrantedStep {S O : Type 0} (setup : Setup) (core : CoreState S O) (thread : ℕ) (event : Event) (forced : Bool) : Type 0 where
+  pub said : list_any is_due core.words ≡ false
+  pub word : slice_get core.words thread ≡ Some (Said (Some event))
+  pub going : verdict_at setup (position core) ≡ None
+  pub chosen : choice setup (position core) ≡ Grant thread forced
+  pub enabled : IsTrue (is_enabled (world_at setup (position core)) event)
