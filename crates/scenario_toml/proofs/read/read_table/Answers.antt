@@ -1,0 +1,20 @@
+use Rattle.std.proofs.Common.{refl, arith}
+use Rattle.std.proofs.lemmas.Grind.{common_steps}
+use Rattle.scenario_toml.proofs.read.read_table.Goals as goal
+
+pub invariant_of-result : goal.invariant_of-result
+invariant_of-result c = record {
+  depth_some = c.in_ok-settings.ensures.depth.0;
+  depth_most = c.in_ok-settings.ensures.depth.1;
+  steps_some = c.in_ok-settings.ensures.steps.0;
+  steps_most = c.in_ok-settings.ensures.steps.1;
+  limits = c.in_ok-size.ensures.limits;
+  no_devices = c.in_ok-size.ensures.no_devices;
+  threads = c.in_ok-routines.ensures.few;
+  counted = grind (arith, common_steps);
+  few = grind (arith, common_steps);
+  watchers = grind (arith, common_steps);
+  watched = c.in_ok-monitors.ensures.watched c.in_ok-size.size refl;
+  selected_few = c.in_ok-entries.ensures.few.0;
+  other_few = c.in_ok-entries.ensures.few.1;
+}

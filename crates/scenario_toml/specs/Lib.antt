@@ -1,0 +1,17 @@
+pub mod Counts
+pub mod Faults
+pub mod Inside
+pub mod Keys
+pub mod LineOf
+pub mod Monitors
+pub mod Plan
+pub mod Rules
+pub mod Scenario
+pub mod State
+pub mod Tapes
+pub mod Thread
+pub mod Top
+pub mod Values
+pub mod WatchText
+pub mod Words
+pub mod World

@@ -1,0 +1,40 @@
+-- What a scenario is seen as.
+use Rattle.std.specs.Prelude.{◌≡◌, ℕ, ◌≤◌, List, All, length, sum}
+use Rattle.surw_base.specs.declared.limits.TheConstants.{THREADS, STEPS}
+use Rattle.event_class.specs.declared.pickable.Pickable.{Pickable}
+use Rattle.routine_kit.specs.declared.any_routine.AnyRoutine.{AnyRoutine}
+use Rattle.test_world.specs.declared.monitor.Monitor.{Monitor}
+use Rattle.test_world.specs.declared.size.WorldSize.{WorldSize}
+use Rattle.test_world.specs.Monitor.{CanWatch}
+use Rattle.test_world.specs.Size.{IsWithinLimits, HasNoDevices}
+use Rattle.scenario_toml.specs.declared.strategy.Strategy.{Strategy}
+
+-- the values of its keys; the tapes by their entries, and the threads by their routines at their start
+pub record ScenarioState : Type 0 where
+  pub strategy : Strategy
+  pub seed : ℕ
+  pub depth : ℕ
+  pub max_steps : ℕ
+  pub select : List Pickable
+  pub counts : List ℕ
+  pub monitors : List Monitor
+  pub size : WorldSize
+  pub selected : List ℕ
+  pub other : List ℕ
+  pub routines : List AnyRoutine
+
+-- what holds of every scenario: a run can be made of it
+pub record IsScenario (s : ScenarioState) : Type 0 where
+  pub depth_some : 1 ≤ s.depth
+  pub depth_most : s.depth ≤ 16
+  pub steps_some : 1 ≤ s.max_steps
+  pub steps_most : s.max_steps ≤ STEPS
+  pub limits : IsWithinLimits s.size
+  pub no_devices : HasNoDevices s.size
+  pub threads : length s.routines ≤ THREADS
+  pub counted : length s.counts ≡ length s.routines
+  pub few : sum s.counts ≤ STEPS
+  pub watchers : length s.monitors ≤ 16
+  pub watched : All (CanWatch s.size) s.monitors
+  pub selected_few : length s.selected ≤ STEPS
+  pub other_few : length s.other ≤ STEPS

@@ -1,0 +1,24 @@
+-- The table `tapes`.
+use Rattle.std.specs.Prelude.{List, ℕ, [], ◌∷◌, Result, Ok, codes}
+use Rattle.toml.specs.Data.{Data, Members, get_member}
+use Rattle.scenario_toml.specs.declared.fault.ScenarioFault.{ScenarioFault}
+use Rattle.scenario_toml.specs.Faults.{and_then}
+use Rattle.scenario_toml.specs.Keys.{greatest}
+use Rattle.scenario_toml.specs.Values.{list_or, number_item, only}
+
+-- the entries of the tape of the selected draws, and of the other one
+pub record Entries : Type 0 where
+  pub selected : List ℕ
+  pub other : List ℕ
+
+-- an entry
+abbrev pub entry_item : List ℕ → ℕ → Data → Result ℕ ScenarioFault
+entry_item = number_item greatest
+
+-- the keys in their order; each is empty by default
+unfoldable pub tapes : Members → Result Entries ScenarioFault
+tapes table =
+    and_then (only (codes "tapes.") (codes "selected" ∷ codes "other" ∷ []) table) (λ _.
+    and_then (list_or [] entry_item (codes "tapes.selected") 65536 (get_member (codes "selected") table)) (λ selected.
+    and_then (list_or [] entry_item (codes "tapes.other") 65536 (get_member (codes "other") table)) (λ other.
+    Ok (record { selected = selected; other = other }))))

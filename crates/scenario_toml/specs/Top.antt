@@ -1,0 +1,86 @@
+-- The top table.
+use Rattle.std.specs.Prelude.{List, ℕ, [], ◌∷◌, Option, None, Some, Result, Ok, codes}
+use Rattle.toml.specs.Data.{Data, Items, Members, as_table, get_member}
+use Rattle.event_class.specs.declared.pickable.Pickable.{Pickable}
+use Rattle.event_class.specs.declared.pickable.Pickable.TheVariants.{Every}
+use Rattle.scenario_toml.specs.declared.fault.ScenarioFault.{ScenarioFault}
+use Rattle.scenario_toml.specs.declared.strategy.Strategy.{Strategy}
+use Rattle.scenario_toml.specs.declared.watch.Watch.{Watch}
+use Rattle.scenario_toml.specs.Counts.{counts}
+use Rattle.scenario_toml.specs.Faults.{and_then}
+use Rattle.scenario_toml.specs.Keys.{max_steps, seed, depth}
+use Rattle.scenario_toml.specs.Monitors.{watch_item}
+use Rattle.scenario_toml.specs.Values.{array, list_or, meant, number_in, of_kind, required, text_in, text_item}
+use Rattle.scenario_toml.specs.Words.{pickable_of, strategy_of}
+
+-- the keys of the top table
+abbrev pub top_names : List (List ℕ)
+top_names =
+    codes "max_steps" ∷ codes "strategy" ∷ codes "seed" ∷ codes "depth" ∷ codes "select" ∷ codes "counts" ∷ codes "monitors"
+    ∷ codes "world" ∷ codes "tapes" ∷ codes "thread" ∷ []
+
+-- its numbers and words
+pub record Settings : Type 0 where
+  pub max_steps : ℕ
+  pub strategy : Strategy
+  pub seed : ℕ
+  pub depth : ℕ
+
+-- the strategy has to be named
+abbrev pub strategy_in : Members → Result Strategy ScenarioFault
+strategy_in table = and_then (text_in [] table (codes "strategy")) (λ text. meant (codes "strategy") text (strategy_of text))
+
+-- in their order
+unfoldable pub settings : Members → Result Settings ScenarioFault
+settings table =
+    and_then (number_in [] table max_steps) (λ max_steps.
+    and_then (strategy_in table) (λ strategy.
+    and_then (number_in [] table seed) (λ seed.
+    and_then (number_in [] table depth) (λ depth.
+    Ok (record { max_steps = max_steps; strategy = strategy; seed = seed; depth = depth })))))
+
+-- its lists
+pub record Lists : Type 0 where
+  pub select : List Pickable
+  pub counts : List ℕ
+  pub watches : List Watch
+
+-- an item of `select`
+abbrev pub select_item : List ℕ → ℕ → Data → Result Pickable ScenarioFault
+select_item = text_item pickable_of
+
+-- in their order
+unfoldable pub lists : Members → Result Lists ScenarioFault
+lists table =
+    and_then (list_or (Every ∷ []) select_item (codes "select") 32 (get_member (codes "select") table)) (λ select.
+    and_then (counts (get_member (codes "counts") table)) (λ counts.
+    and_then (list_or [] watch_item (codes "monitors") 16 (get_member (codes "monitors") table)) (λ watches.
+    Ok (record { select = select; counts = counts; watches = watches }))))
+
+-- its tables, by their kind alone, and the array of threads with its length
+pub record Parts : Type 0 where
+  pub world : Option Members
+  pub tapes : Members
+  pub threads : Option Items
+
+-- a table that may be absent
+abbrev pub table_in : List ℕ → Option Data → Result (Option Members) ScenarioFault
+table_in key None = Ok None
+table_in key (Some d) = and_then (of_kind key (as_table d)) (λ table. Ok (Some table))
+
+-- an array that may be absent
+abbrev pub array_in : List ℕ → ℕ → Option Data → Result (Option Items) ScenarioFault
+array_in key most None = Ok None
+array_in key most (Some d) = and_then (array key most d) (λ ds. Ok (Some ds))
+
+-- the table `tapes` has to be there
+abbrev pub tapes_in : Option Data → Result Members ScenarioFault
+tapes_in d = and_then (required (codes "tapes") d) (λ d. of_kind (codes "tapes") (as_table d))
+
+-- in their order
+unfoldable pub parts : Members → Result Parts ScenarioFault
+parts table =
+    and_then (table_in (codes "world") (get_member (codes "world") table)) (λ world.
+    and_then (tapes_in (get_member (codes "tapes") table)) (λ tapes.
+    and_then (array_in (codes "thread") 16 (get_member (codes "thread") table)) (λ threads.
+    Ok (record { world = world; tapes = tapes; threads = threads }))))

@@ -1,0 +1,92 @@
+//! The keys whose values are whole numbers.
+
+/// A key whose value is a whole number.
+#[derive(Clone, Copy, Debug)]
+pub(crate) struct NumberKey {
+    /// Its name.
+    pub(crate) name: &'static str,
+    /// The least number.
+    pub(crate) least: i64,
+    /// The greatest number.
+    pub(crate) most: i64,
+    /// What stands for it where it is absent. None where it has to be there.
+    pub(crate) default: Option<u64>,
+}
+
+pub(crate) const MAX_STEPS: NumberKey = NumberKey {
+    name: "max_steps",
+    least: 1,
+    most: 65_536,
+    default: Some(65_536),
+};
+
+pub(crate) const SEED: NumberKey = NumberKey {
+    name: "seed",
+    least: 0,
+    most: i64::MAX,
+    default: Some(0),
+};
+
+pub(crate) const DEPTH: NumberKey = NumberKey {
+    name: "depth",
+    least: 1,
+    most: 16,
+    default: Some(3),
+};
+
+pub(crate) const CELLS: NumberKey = NumberKey {
+    name: "cells",
+    least: 0,
+    most: 64,
+    default: Some(0),
+};
+
+pub(crate) const LOCKS: NumberKey = NumberKey {
+    name: "locks",
+    least: 0,
+    most: 8,
+    default: Some(0),
+};
+
+// No world has a page cache, a disk or a log yet.
+pub(crate) const FRAMES: NumberKey = NumberKey {
+    name: "frames",
+    least: 0,
+    most: 0,
+    default: Some(0),
+};
+
+pub(crate) const PAGES: NumberKey = NumberKey {
+    name: "pages",
+    least: 0,
+    most: 0,
+    default: Some(0),
+};
+
+pub(crate) const SLOTS: NumberKey = NumberKey {
+    name: "slots",
+    least: 0,
+    most: 0,
+    default: Some(0),
+};
+
+pub(crate) const TIMES: NumberKey = NumberKey {
+    name: "times",
+    least: 1,
+    most: 4_096,
+    default: Some(1),
+};
+
+pub(crate) const CELL: NumberKey = NumberKey {
+    name: "cell",
+    least: 0,
+    most: 63,
+    default: None,
+};
+
+pub(crate) const TRIES: NumberKey = NumberKey {
+    name: "tries",
+    least: 1,
+    most: 4_096,
+    default: Some(1),
+};

@@ -1,0 +1,22 @@
+//! Scenario files: TOML that says what a test is made of, read into a scenario, of which a plan is made.
+#![tactic(auto)]
+
+mod choice;
+mod fault;
+mod key_name;
+mod keys;
+mod kind;
+mod name_text;
+mod planning;
+mod read;
+mod scenario;
+mod strategy;
+mod watch;
+
+pub use choice::Choice;
+pub use fault::ScenarioFault;
+pub use key_name::KeyName;
+pub use name_text::NameText;
+pub use read::read_scenario;
+pub use scenario::Scenario;
+pub use strategy::Strategy;

@@ -1,0 +1,65 @@
+ghost use Rattle.std.specs.Prelude.{◌≡◌, ◌≤◌, ◌++◌, codes, IfOk, IfErr, Ok, length, []};
+ghost use Rattle.surw_base.specs.declared.limits.TheConstants.{STEPS};
+ghost use Rattle.toml.specs.Data.{get_member};
+ghost use Rattle.toml.specs.View.{table_view};
+ghost use Rattle.scenario_toml.specs.Faults.{IsFaultOf};
+ghost use Rattle.scenario_toml.specs.Tapes.{tapes, entry_item};
+ghost use Rattle.scenario_toml.specs.Values.{list_or};
+
+use crate::read::items::Item;
+use crate::read::values::{list_of, number, only, value_at};
+use crate::{KeyName, ScenarioFault};
+use std::alloc::Global;
+use surw_base::STEPS;
+use toml::{Table, Value};
+
+/// The entries of the two tapes.
+#[derive(Debug, Drop)]
+pub(crate) struct Entries {
+    /// Those of the selected draws.
+    pub(crate) selected: Vec<u64>,
+    /// Those of the other draws.
+    pub(crate) other: Vec<u64>,
+}
+
+/// The entries that the table `tapes` lists.
+#[tactic(auto, unfolding(crate::specs::Tapes::tapes))]
+pub(crate) fn read_tapes(alloc: Global, table: &Table) -> Result<Entries, ScenarioFault>
+    ensures ok { IfOk result (λ found. tapes (table_view table.now) ≡ Ok (record { selected = found.selected.items; other = found.other.items })) }
+    ensures fault { IfErr result (IsFaultOf (tapes (table_view table.now))) }
+    ensures few { IfOk result (λ found. (length found.selected.items ≤ STEPS) × (length found.other.items ≤ STEPS)) }
+{
+    only(alloc, b"tapes.", &["selected", "other"], table)?;
+    let selected = entries_at(alloc, table, "selected")?;
+    let other = entries_at(alloc, table, "other")?;
+    Ok(Entries { selected, other })
+}
+
+// The entries of a tape, and none where it is absent.
+fn entries_at(alloc: Global, table: &Table, name: &str) -> Result<Vec<u64>, ScenarioFault>
+    ensures ok { IfOk result (λ found. list_or [] entry_item (codes "tapes." ++ name.now) 65536 (get_member name.now (table_view table.now)) ≡ Ok found.items) }
+    ensures fault { IfErr result (IsFaultOf (list_or [] entry_item (codes "tapes." ++ name.now) 65536 (get_member name.now (table_view table.now)))) }
+    ensures few { IfOk result (λ found. length found.items ≤ STEPS) }
+{
+    match value_at(table, name) {
+        None => Ok(Vec::new(alloc)),
+        Some(value) => list_of(alloc, b"tapes.", name, value, STEPS),
+    }
+}
+
+impl Item for u64 {
+    ghost use Rattle.scenario_toml.specs.Tapes.{entry_item};
+
+    ghost item = { entry_item };
+
+    ghost IsKept = { λ _. Unit {0} };
+
+    fn read(
+        alloc: Global,
+        key: &KeyName,
+        place: usize,
+        value: &Value,
+    ) -> Result<u64, ScenarioFault> {
+        number(key.at(alloc, place)?, value, 0, i64::MAX)
+    }
+}

@@ -1,0 +1,234 @@
+ghost use Rattle.std.specs.Prelude.{◌≡◌, ◌≤◌, ◌∷◌, [], codes, length, option_map, IfOk, IfErr, IfSome, Ok};
+ghost use Rattle.surw_base.specs.declared.limits.TheConstants.{STEPS};
+ghost use Rattle.event_class.specs.declared.pickable.Pickable.TheVariants.{Every};
+ghost use Rattle.toml.specs.Data.{get_member};
+ghost use Rattle.toml.specs.View.{items_view, table_view};
+ghost use Rattle.scenario_toml.specs.Faults.{IsFaultOf};
+ghost use Rattle.scenario_toml.specs.Monitors.{watch_item};
+ghost use Rattle.scenario_toml.specs.Top.{array_in, lists, parts, select_item, settings, strategy_in, table_in, tapes_in};
+ghost use Rattle.scenario_toml.specs.Values.{list_or};
+ghost use Rattle.scenario_toml.specs.Words.{pickable_of};
+
+use crate::read::counts::read_counts;
+use crate::read::items::Item;
+use crate::read::values::{array_of, list_of, not_named, number_at, text_at, value_at};
+use crate::watch::Watch;
+use crate::{KeyName, ScenarioFault, Strategy, keys};
+use event_class::{Pickable, read_pickable};
+use std::alloc::Global;
+use toml::{Table, Value};
+
+/// The keys of the top table.
+pub(crate) const TOP_NAMES: [&str; 10] = [
+    "max_steps",
+    "strategy",
+    "seed",
+    "depth",
+    "select",
+    "counts",
+    "monitors",
+    "world",
+    "tapes",
+    "thread",
+];
+
+/// The numbers and words of the top table.
+#[derive(Clone, Copy, Debug)]
+pub(crate) struct Settings {
+    /// The most steps.
+    pub(crate) max_steps: u32,
+    /// The strategy.
+    pub(crate) strategy: Strategy,
+    /// The seed.
+    pub(crate) seed: u64,
+    /// The depth.
+    pub(crate) depth: u8,
+}
+
+/// The numbers and words of the top table.
+#[tactic(auto, unfolding(crate::specs::Top::settings))]
+pub(crate) fn read_settings(alloc: Global, table: &Table) -> Result<Settings, ScenarioFault>
+    ensures ok { IfOk result (λ s. settings (table_view table.now) ≡ Ok (record { max_steps = s.max_steps; strategy = s.strategy; seed = s.seed; depth = s.depth })) }
+    ensures fault { IfErr result (IsFaultOf (settings (table_view table.now))) }
+    ensures steps { IfOk result (λ s. (1 ≤ s.max_steps) × (s.max_steps ≤ STEPS)) }
+    ensures depth { IfOk result (λ s. (1 ≤ s.depth) × (s.depth ≤ 16)) }
+{
+    let max_steps = number_at(alloc, b"", table, keys::MAX_STEPS)?;
+    let strategy = strategy_at(alloc, table)?;
+    let seed = number_at(alloc, b"", table, keys::SEED)?;
+    let depth = number_at(alloc, b"", table, keys::DEPTH)?;
+    Ok(Settings {
+        max_steps: max_steps as u32,
+        strategy,
+        seed,
+        depth: depth as u8,
+    })
+}
+
+// The strategy that the file names.
+fn strategy_at(alloc: Global, table: &Table) -> Result<Strategy, ScenarioFault>
+    ensures ok { IfOk result (λ strategy. strategy_in (table_view table.now) ≡ Ok strategy) }
+    ensures fault { IfErr result (IsFaultOf (strategy_in (table_view table.now))) }
+{
+    let text = text_at(alloc, b"", table, "strategy")?;
+    match Strategy::of(text.as_bytes()) {
+        Some(strategy) => Ok(strategy),
+        None => {
+            let key = KeyName::new(alloc, b"", "strategy")?;
+            Err(not_named(alloc, key, text.as_bytes()))
+        }
+    }
+}
+
+/// The lists of the top table.
+#[derive(Debug, Drop)]
+pub(crate) struct Lists {
+    /// What is selected.
+    pub(crate) select: Vec<Pickable>,
+    /// The counts.
+    pub(crate) counts: Vec<u32>,
+    /// What is watched for.
+    pub(crate) watches: Vec<Watch>,
+}
+
+/// The lists of the top table.
+#[tactic(auto, unfolding(crate::specs::Top::lists))]
+pub(crate) fn read_lists(alloc: Global, table: &Table) -> Result<Lists, ScenarioFault>
+    ensures ok { IfOk result (λ l. lists (table_view table.now) ≡ Ok (record { select = l.select.items; counts = l.counts.items; watches = l.watches.items })) }
+    ensures fault { IfErr result (IsFaultOf (lists (table_view table.now))) }
+    ensures few { IfOk result (λ l. length l.watches.items ≤ 16) }
+{
+    let select = select_at(alloc, table)?;
+    let counts = read_counts(alloc, table)?;
+    let watches = watches_at(alloc, table)?;
+    Ok(Lists {
+        select,
+        counts,
+        watches,
+    })
+}
+
+// What is selected, and every event where the file doesn't say.
+fn select_at(alloc: Global, table: &Table) -> Result<Vec<Pickable>, ScenarioFault>
+    ensures ok { IfOk result (λ found. list_or (Every ∷ []) select_item (codes "select") 32 (get_member (codes "select") (table_view table.now)) ≡ Ok found.items) }
+    ensures fault { IfErr result (IsFaultOf (list_or (Every ∷ []) select_item (codes "select") 32 (get_member (codes "select") (table_view table.now)))) }
+{
+    match value_at(table, "select") {
+        None => Ok(Vec::from_slice(alloc, &[Pickable::Every])?),
+        Some(value) => list_of(alloc, b"", "select", value, 32),
+    }
+}
+
+// What is watched for.
+fn watches_at(alloc: Global, table: &Table) -> Result<Vec<Watch>, ScenarioFault>
+    ensures ok { IfOk result (λ found. list_or [] watch_item (codes "monitors") 16 (get_member (codes "monitors") (table_view table.now)) ≡ Ok found.items) }
+    ensures fault { IfErr result (IsFaultOf (list_or [] watch_item (codes "monitors") 16 (get_member (codes "monitors") (table_view table.now)))) }
+    ensures few { IfOk result (λ found. length found.items ≤ 16) }
+{
+    match value_at(table, "monitors") {
+        None => Ok(Vec::new(alloc)),
+        Some(value) => list_of(alloc, b"", "monitors", value, 16),
+    }
+}
+
+/// The tables of the top table, and its array of threads.
+#[derive(Clone, Copy)]
+pub(crate) struct Parts<'a> {
+    /// The table `world`.
+    pub(crate) world: Option<&'a Table>,
+    /// The table `tapes`.
+    pub(crate) tapes: &'a Table,
+    /// The array `thread`, at most `THREADS` items.
+    pub(crate) threads: Option<&'a [Value]>,
+}
+
+/// The tables of the top table, looked at for their kind alone, and its array of threads with its length.
+#[tactic(auto, unfolding(crate::specs::Top::parts))]
+pub(crate) fn read_parts<'a>(alloc: Global, table: &'a Table) -> Result<Parts<'a>, ScenarioFault>
+    ensures ok { IfOk result (λ p. parts (table_view table.now) ≡ Ok (record { world = option_map (λ t. table_view t.now) p.world; tapes = table_view p.tapes.now; threads = option_map (λ t. items_view t.now) p.threads })) }
+    ensures fault { IfErr result (IsFaultOf (parts (table_view table.now))) }
+    ensures few { IfOk result (λ p. IfSome p.threads (λ t. length t.now ≤ 16)) }
+{
+    let world = world_at(alloc, table)?;
+    let tapes = tapes_at(alloc, table)?;
+    let threads = threads_at(alloc, table)?;
+    Ok(Parts {
+        world,
+        tapes,
+        threads,
+    })
+}
+
+// The table `world`.
+fn world_at<'a>(alloc: Global, table: &'a Table) -> Result<Option<&'a Table>, ScenarioFault>
+    ensures ok { IfOk result (λ found. table_in (codes "world") (get_member (codes "world") (table_view table.now)) ≡ Ok (option_map (λ t. table_view t.now) found)) }
+    ensures fault { IfErr result (IsFaultOf (table_in (codes "world") (get_member (codes "world") (table_view table.now)))) }
+{
+    match value_at(table, "world") {
+        None => Ok(None),
+        Some(value) => match value.as_table() {
+            Some(found) => Ok(Some(found)),
+            None => Err(ScenarioFault::WrongKind {
+                key: KeyName::new(alloc, b"", "world")?,
+            }),
+        },
+    }
+}
+
+// The table `tapes`.
+fn tapes_at<'a>(alloc: Global, table: &'a Table) -> Result<&'a Table, ScenarioFault>
+    ensures ok { IfOk result (λ found. tapes_in (get_member (codes "tapes") (table_view table.now)) ≡ Ok (table_view found.now)) }
+    ensures fault { IfErr result (IsFaultOf (tapes_in (get_member (codes "tapes") (table_view table.now)))) }
+{
+    let key = KeyName::new(alloc, b"", "tapes")?;
+    match value_at(table, "tapes") {
+        None => Err(ScenarioFault::Missing { key }),
+        Some(value) => match value.as_table() {
+            Some(found) => Ok(found),
+            None => Err(ScenarioFault::WrongKind { key }),
+        },
+    }
+}
+
+// The array `thread`.
+fn threads_at<'a>(alloc: Global, table: &'a Table) -> Result<Option<&'a [Value]>, ScenarioFault>
+    ensures ok { IfOk result (λ found. array_in (codes "thread") 16 (get_member (codes "thread") (table_view table.now)) ≡ Ok (option_map (λ t. items_view t.now) found)) }
+    ensures fault { IfErr result (IsFaultOf (array_in (codes "thread") 16 (get_member (codes "thread") (table_view table.now)))) }
+    ensures few { IfOk result (λ found. IfSome found (λ t. length t.now ≤ 16)) }
+{
+    match value_at(table, "thread") {
+        None => Ok(None),
+        Some(value) => Ok(Some(array_of(alloc, b"", "thread", value, 16)?)),
+    }
+}
+
+impl Item for Pickable {
+    ghost use Rattle.scenario_toml.specs.Top.{select_item};
+
+    ghost item = { select_item };
+
+    ghost IsKept = { λ _. Unit {0} };
+
+    fn read(
+        alloc: Global,
+        key: &KeyName,
+        place: usize,
+        value: &Value,
+    ) -> Result<Pickable, ScenarioFault> {
+        let key = key.at(alloc, place)?;
+        match value.as_str() {
+            None => Err(ScenarioFault::WrongKind { key }),
+            Some(text) => match pickable(text.as_bytes()) {
+                Some(item) => Ok(item),
+                None => Err(not_named(alloc, key, text.as_bytes())),
+            },
+        }
+    }
+}
+
+// The item of a text.
+fn pickable(text: &[u8]) -> Option<Pickable>
+    ensures { result ≡ pickable_of text.now }
+{
+    read_pickable(text)
+}

@@ -1,0 +1,86 @@
+ghost use Rattle.std.specs.Prelude.{◌≡◌, ◌≤◌, length};
+ghost use Rattle.surw_base.specs.declared.limits.TheConstants.{THREADS};
+ghost use Rattle.scenario_toml.specs.Plan.{chosen_or, strategy_by};
+
+use crate::{Choice, Strategy};
+use draw_split::Weights;
+use event_class::Selection;
+use routine_kit::AnyRoutine;
+use std::marker::Model;
+use test_world::{Monitor, WorldSize};
+
+/// What a scenario file says. A contract sees the values of its keys.
+#[derive(Debug, Drop)]
+pub struct Scenario {
+    pub(crate) strategy: Strategy,
+    pub(crate) seed: u64,
+    pub(crate) depth: u8,
+    pub(crate) max_steps: u32,
+    pub(crate) select: Selection,
+    pub(crate) counts: Weights,
+    pub(crate) monitors: Vec<Monitor>,
+    pub(crate) size: WorldSize,
+    // The entries of the two tapes.
+    pub(crate) selected: Vec<u64>,
+    pub(crate) other: Vec<u64>,
+    pub(crate) routines: Vec<AnyRoutine>,
+}
+
+impl Model for Scenario {
+    ghost use Rattle.scenario_toml.specs.Inside.{state_of};
+    ghost use Rattle.scenario_toml.specs.State.{ScenarioState, IsScenario};
+
+    ghost Value = { ScenarioState };
+
+    ghost view = { state_of };
+
+    ghost invariant = { λ scenario. IsScenario (state_of scenario) };
+}
+
+impl Scenario {
+    /// The strategy: the choice's where it has one, else the file's.
+    pub fn strategy(&self, choice: &Choice) -> Strategy
+        ensures { result ≡ strategy_by self.now choice.now }
+    {
+        match choice.strategy {
+            Some(strategy) => strategy,
+            None => self.strategy,
+        }
+    }
+
+    /// The seed: the choice's where it has one, else the file's.
+    pub fn seed(&self, choice: &Choice) -> u64
+        ensures { result ≡ chosen_or self.now.seed choice.now.seed }
+    {
+        match choice.seed {
+            Some(seed) => seed,
+            None => self.seed,
+        }
+    }
+
+    /// The depth: the choice's where it has one, else the file's.
+    pub fn depth(&self, choice: &Choice) -> u8
+        ensures { result ≡ chosen_or self.now.depth choice.now.depth }
+    {
+        match choice.depth {
+            Some(depth) => depth,
+            None => self.depth,
+        }
+    }
+
+    /// The counts of the file, one for each thread.
+    pub fn counts(&self) -> &Weights
+        ensures same { result.now ≡ self.now.counts }
+        ensures each { length self.now.counts ≡ length self.now.routines }
+    {
+        &self.counts
+    }
+
+    /// How many threads there are, at most `THREADS`.
+    pub fn threads(&self) -> usize
+        ensures number { result ≡ length self.now.routines }
+        ensures most { result ≤ THREADS }
+    {
+        self.routines.len()
+    }
+}

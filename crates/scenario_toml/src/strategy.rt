@@ -1,0 +1,24 @@
+ghost use Rattle.std.specs.Prelude.{◌≡◌};
+ghost use Rattle.scenario_toml.specs.Words.{strategy_of};
+
+/// A strategy that a scenario can name.
+#[derive(Clone, Copy, Debug, PartialEq, Eq)]
+pub enum Strategy {
+    /// The next thread is picked with a weight equal to its number of events left.
+    Urw,
+    /// Each thread that can go on is picked with equal weight.
+    Plain,
+}
+
+impl Strategy {
+    // The strategy of this name.
+    pub(crate) fn of(text: &[u8]) -> Option<Strategy>
+        ensures { result ≡ strategy_of text.now }
+    {
+        match text {
+            b"urw" => Some(Strategy::Urw),
+            b"plain" => Some(Strategy::Plain),
+            _ => None,
+        }
+    }
+}
