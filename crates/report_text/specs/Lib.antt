@@ -1,0 +1,8 @@
+pub mod Counts
+pub mod Lines
+pub mod MonitorLines
+pub mod NextLines
+pub mod Report
+pub mod StepLines
+pub mod VerdictLine
+pub mod WorldLines
