@@ -7,3 +7,5 @@ mod command;
 mod draws;
 #[cfg(test)]
 mod order;
+#[cfg(test)]
+mod plan;

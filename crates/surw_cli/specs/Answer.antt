@@ -1,5 +1,5 @@
 -- The answer to a command line, where no device fails: the words and what the shelf gives for a name decide it.
-use Rattle.std.specs.Prelude.{◌≡◌, ℕ, ◌≤◌, List, Option, Some, length}
+use Rattle.std.specs.Prelude.{◌≡◌, ℕ, ◌≤◌, List, Option, Some, Ok, Err, length}
 use Rattle.draw_split.specs.JoinFault as joining
 use Rattle.draw_split.specs.Named.{Names}
 use Rattle.draw_split.specs.Split.{Parts}
@@ -8,6 +8,11 @@ use Rattle.draw_split.specs.declared.joining.JoinFault.{JoinFault}
 use Rattle.draw_split.specs.declared.joining.JoinFault.TheVariants as join
 use Rattle.draw_split.specs.declared.naming.SplitFault.{SplitFault}
 use Rattle.draw_split.specs.declared.naming.SplitFault.TheVariants as split
+use Rattle.report_text.specs.Report.{report_text}
+use Rattle.run_rules.specs.Run.{Ran}
+use Rattle.scenario_toml.specs.declared.fault.ScenarioFault.{ScenarioFault}
+use Rattle.scenario_toml.specs.Scenario.{scenario_of}
+use Rattle.scenario_toml.specs.State.{ScenarioState}
 use Rattle.surw_base.specs.declared.limits.TheConstants.{FILE_LIMIT}
 use Rattle.surw_io.specs.Content.{Entry, Missing, IsFileOf}
 use Rattle.surw_io.specs.Fetch.{IsLongerThan}
@@ -15,20 +20,24 @@ use Rattle.surw_cli.specs.DrawsFile.{IsDrawsFile, IsOtherDraws}
 use Rattle.surw_cli.specs.DrawsText.{draws_text}
 use Rattle.surw_cli.specs.OrderFile.{IsOrderFile, IsOtherOrder}
 use Rattle.surw_cli.specs.OrderText.{order_text}
+use Rattle.surw_cli.specs.Planned.{IsRunOf, status_of_run}
 use Rattle.surw_cli.specs.Words.{AskFor}
 use Rattle.surw_cli.specs.declared.fault.Fault.{Fault}
 use Rattle.surw_cli.specs.declared.fault.Fault.TheVariants.{Words, Lines, Read, Length, Large, Miscount, Offsets, Offset, TooLong}
 use Rattle.surw_cli.specs.declared.words.Job.{Job}
-use Rattle.surw_cli.specs.declared.words.Job.TheVariants.{Order, Draws}
+use Rattle.surw_cli.specs.declared.words.Job.TheVariants.{Order, Draws, Plan}
+use Rattle.surw_cli.specs.declared.status.Status.{Status}
+use Rattle.surw_cli.specs.declared.status.Status.TheVariants.{Done}
 
 -- what the shelf gives for a name, where it tells it
 abbrev pub Coming : Type 0
 Coming = List ℕ → Option Entry
 
--- a report, or a refusal
+-- a report with the status that it ends with, a refusal, or a file that is no scenario
 pub data Answer : Type 0 where
-  Report : List ℕ → Answer
+  Report : Status → List ℕ → Answer
   Refusal : Fault → Answer
+  NoScenario : ScenarioFault → Answer
 
 -- the file is there and not too long, and these are its bytes
 pub record HasFile (coming : Option Entry) (bytes : List ℕ) : Type 0 where
@@ -65,7 +74,9 @@ pub record IsMisdrawn (coming : Option Entry) (fault : SplitFault) : Type 0 wher
 
 -- the answer of the job `order` to what the shelf gives for the name; no two cases hold of one file
 abbrev pub IsOrderAnswer : Option Entry → Answer → Type 0
-IsOrderAnswer coming (Report text) = IsOrderReport coming text
+IsOrderAnswer coming (Report Done text) = IsOrderReport coming text
+IsOrderAnswer coming (Report status text) = ⊥
+IsOrderAnswer coming (NoScenario fault) = ⊥
 IsOrderAnswer coming (Refusal Words) = ⊥
 IsOrderAnswer coming (Refusal (Lines number)) = HasOtherFile IsOtherOrder coming number
 IsOrderAnswer coming (Refusal Read) = coming ≡ Some Missing
@@ -100,7 +111,9 @@ pub record IsUnnamed (coming : Option Entry) (fault : JoinFault) : Type 0 where
 
 -- the answer of the job `draws` to what the shelf gives for the name; no two cases hold of one file
 abbrev pub IsDrawsAnswer : Option Entry → Answer → Type 0
-IsDrawsAnswer coming (Report text) = IsDrawsReport coming text
+IsDrawsAnswer coming (Report Done text) = IsDrawsReport coming text
+IsDrawsAnswer coming (Report status text) = ⊥
+IsDrawsAnswer coming (NoScenario fault) = ⊥
 IsDrawsAnswer coming (Refusal Words) = ⊥
 IsDrawsAnswer coming (Refusal (Lines number)) = HasOtherFile IsOtherDraws coming number
 IsDrawsAnswer coming (Refusal Read) = coming ≡ Some Missing
@@ -111,10 +124,40 @@ IsDrawsAnswer coming (Refusal (Offsets thread counted seen)) = IsUnnamed coming 
 IsDrawsAnswer coming (Refusal (Offset thread place kept below)) = IsUnnamed coming (join.Offset thread place kept below)
 IsDrawsAnswer coming (Refusal (TooLong limit)) = (limit ≡ FILE_LIMIT) × IsLongerThan FILE_LIMIT coming
 
+-- it is the file of a scenario
+pub record HasScenario (coming : Option Entry) (scenario : ScenarioState) : Type 0 where
+  pub bytes : List ℕ
+  pub file : HasFile coming bytes
+  pub form : scenario_of bytes ≡ Ok scenario
+
+-- the run of the scenario's plan is printed, and its end is the status
+pub record IsPlanReport (coming : Option Entry) (status : Status) (text : List ℕ) : Type 0 where
+  pub scenario : ScenarioState
+  pub file : HasScenario coming scenario
+  pub ran : Ran
+  pub run : IsRunOf scenario ran
+  pub printed : text ≡ report_text ran
+  pub ends : status ≡ status_of_run ran
+
+-- the file is no scenario, and this is its first fault
+pub record IsNoScenario (coming : Option Entry) (fault : ScenarioFault) : Type 0 where
+  pub bytes : List ℕ
+  pub file : HasFile coming bytes
+  pub refused : scenario_of bytes ≡ Err fault
+
+-- the answer of the job `plan` to what the shelf gives for the name; no two cases hold of one file
+abbrev pub IsPlanAnswer : Option Entry → Answer → Type 0
+IsPlanAnswer coming (Report status text) = IsPlanReport coming status text
+IsPlanAnswer coming (NoScenario fault) = IsNoScenario coming fault
+IsPlanAnswer coming (Refusal Read) = coming ≡ Some Missing
+IsPlanAnswer coming (Refusal (TooLong limit)) = (limit ≡ FILE_LIMIT) × IsLongerThan FILE_LIMIT coming
+IsPlanAnswer coming (Refusal fault) = ⊥
+
 -- the answer of each job
 abbrev pub IsJobAnswer : Job → Option Entry → Answer → Type 0
 IsJobAnswer Order coming answer = IsOrderAnswer coming answer
 IsJobAnswer Draws coming answer = IsDrawsAnswer coming answer
+IsJobAnswer Plan coming answer = IsPlanAnswer coming answer
 
 -- the words ask for a job over a file, and this is the job's answer for it
 pub record IsAnswerForJob (words : List (List ℕ)) (coming : Coming) (answer : Answer) : Type 0 where

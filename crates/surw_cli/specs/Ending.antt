@@ -2,13 +2,15 @@
 use Rattle.std.specs.Prelude.{◌≡◌, ◌⊎◌, ℕ, List, Option}
 use Rattle.surw_io.specs.Cause.{Rose}
 use Rattle.surw_io.specs.Content.{with_end, HoldsFront}
-use Rattle.surw_cli.specs.Answer.{Answer, Report, Refusal, Coming, IsAnswer}
+use Rattle.scenario_faults.specs.FaultText.{scenario_fault_text}
+use Rattle.scenario_toml.specs.declared.fault.ScenarioFault.{ScenarioFault}
+use Rattle.surw_cli.specs.Answer.{Answer, Report, Refusal, NoScenario, Coming, IsAnswer}
 use Rattle.surw_cli.specs.Fault.{fault_text, status_of}
 use Rattle.surw_cli.specs.Stop.{IsUnread}
 use Rattle.surw_cli.specs.declared.fault.Fault.{Fault}
 use Rattle.surw_cli.specs.declared.fault.Fault.TheVariants.{Read}
 use Rattle.surw_cli.specs.declared.status.Status.{Status}
-use Rattle.surw_cli.specs.declared.status.Status.TheVariants.{Done, Words, Form, ReadFault, WriteFault, OutOfMemory, Draw, TooLong}
+use Rattle.surw_cli.specs.declared.status.Status.TheVariants.{Done, Failing, Words, Form, WrongCount, Asked, StepLimit, ReadFault, WriteFault, OutOfMemory, Draw, TooLong}
 
 -- what a call was given, and what it changed: the counts of faults and what the sink has taken
 pub record Call : Type 0 where
@@ -43,17 +45,25 @@ pub record WasRefused (call : Call) (status : Status) : Type 0 where
   pub told : Wrote call (fault_text fault) ⊎ WroteFront call (fault_text fault)
   pub calm : IsCalm call
 
--- the report was written
-pub record WasDone (call : Call) : Type 0 where
+-- the file is no scenario: its first fault was told as far as the sink took it
+pub record WasUnformed (call : Call) : Type 0 where
+  pub fault : ScenarioFault
+  pub cause : IsAnswer call.words call.coming (NoScenario fault)
+  pub told : Wrote call (scenario_fault_text fault) ⊎ WroteFront call (scenario_fault_text fault)
+  pub calm : IsCalm call
+
+-- the report that ends with this status was written
+pub record WasReported (call : Call) (status : Status) : Type 0 where
   pub text : List ℕ
-  pub cause : IsAnswer call.words call.coming (Report text)
+  pub cause : IsAnswer call.words call.coming (Report status text)
   pub told : Wrote call text
   pub calm : IsCalm call
 
 -- the sink failed at the report
 pub record FailedToWrite (call : Call) : Type 0 where
+  pub status : Status
   pub text : List ℕ
-  pub cause : IsAnswer call.words call.coming (Report text)
+  pub cause : IsAnswer call.words call.coming (Report status text)
   pub told : WroteFront call text
   pub calm : IsCalm call
 
@@ -70,19 +80,24 @@ pub record RanOutOfMemory (call : Call) : Type 0 where
 
 -- the call may end with this status
 abbrev pub Ends : Call → Status → Type 0
-Ends call Done = WasDone call
+Ends call Done = WasReported call Done
+Ends call Failing = WasReported call Failing
 Ends call Words = WasRefused call Words
-Ends call Form = WasRefused call Form
+Ends call Form = WasRefused call Form ⊎ WasUnformed call
+Ends call WrongCount = WasReported call WrongCount
+Ends call Asked = WasReported call Asked
+Ends call StepLimit = WasReported call StepLimit
 Ends call ReadFault = FailedToRead call
 Ends call WriteFault = FailedToWrite call
 Ends call OutOfMemory = RanOutOfMemory call
-Ends call Draw = WasRefused call Draw
+Ends call Draw = WasReported call Draw ⊎ WasRefused call Draw
 Ends call TooLong = WasRefused call TooLong
 Ends call _ = ⊥
 
 -- the status of an answer
 abbrev pub answer_status : Answer → Status
-answer_status (Report text) = Done
+answer_status (Report status text) = status
+answer_status (NoScenario fault) = Form
 answer_status (Refusal fault) = status_of fault
 
 -- the status is that of the answer to the words

@@ -8,6 +8,7 @@ pub mod FileFault
 pub mod Lines
 pub mod OrderFile
 pub mod OrderText
+pub mod Planned
 pub mod Status
 pub mod Stop
 pub mod Words

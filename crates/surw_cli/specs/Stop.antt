@@ -9,13 +9,15 @@ use Rattle.surw_io.specs.Cause.{Rose}
 use Rattle.surw_io.specs.declared.whole_file.FetchFault.{FetchFault}
 use Rattle.surw_io.specs.declared.whole_file.FetchFault.TheVariants as fetch
 use Rattle.surw_io.specs.Content.{Entry, Missing}
-use Rattle.surw_cli.specs.Answer.{Coming, IsAnswer, IsJobAnswer, Refusal}
+use Rattle.scenario_toml.specs.declared.fault.ScenarioFault.{ScenarioFault}
+use Rattle.scenario_toml.specs.declared.fault.ScenarioFault.TheVariants as scenario
+use Rattle.surw_cli.specs.Answer.{Coming, IsAnswer, IsJobAnswer, NoScenario, Refusal}
 use Rattle.surw_cli.specs.Words.{AskFor}
 use Rattle.surw_cli.specs.declared.fault.Fault.TheVariants.{Lines, Read, Length, Large, Miscount, Offsets, Offset, TooLong}
 use Rattle.surw_cli.specs.declared.file_fault.FileFault.{FileFault}
 use Rattle.surw_cli.specs.declared.file_fault.FileFault.TheVariants as file
 use Rattle.surw_cli.specs.declared.job.Stop.{Stop}
-use Rattle.surw_cli.specs.declared.job.Stop.TheVariants.{Refused, OutOfMemory}
+use Rattle.surw_cli.specs.declared.job.Stop.TheVariants.{Refused, Unformed, OutOfMemory}
 use Rattle.surw_cli.specs.declared.words.Job.{Job}
 
 abbrev pub stop_of_fetch : FetchFault → Stop
@@ -26,6 +28,10 @@ stop_of_fetch fetch.OutOfMemory = OutOfMemory
 abbrev pub stop_of_file : FileFault → Stop
 stop_of_file (file.Lines number) = Refused (Lines number)
 stop_of_file file.OutOfMemory = OutOfMemory
+
+abbrev pub stop_of_scenario : ScenarioFault → Stop
+stop_of_scenario scenario.OutOfMemory = OutOfMemory
+stop_of_scenario fault = Unformed fault
 
 abbrev pub stop_of_split : SplitFault → Stop
 stop_of_split (split.Length kept needed) = Refused (Length kept needed)
@@ -42,6 +48,7 @@ stop_of_join join.OutOfMemory = OutOfMemory
 abbrev pub IsJobStop : Job → Option Entry → ℕ → ℕ → Stop → Type 0
 IsJobStop job coming before now (Refused Read) = Rose before now ⊎ ((now ≡ before) × IsJobAnswer job coming (Refusal Read))
 IsJobStop job coming before now (Refused fault) = (now ≡ before) × IsJobAnswer job coming (Refusal fault)
+IsJobStop job coming before now (Unformed fault) = (now ≡ before) × IsJobAnswer job coming (NoScenario fault)
 IsJobStop job coming before now OutOfMemory = now ≡ before
 
 -- the words ask for a file, and its reading failed or the shelf tells that it isn't there
@@ -55,4 +62,5 @@ pub record IsUnread (words : List (List ℕ)) (coming : Coming) (before now : �
 abbrev pub IsStop : List (List ℕ) → Coming → ℕ → ℕ → Stop → Type 0
 IsStop words coming before now (Refused Read) = IsUnread words coming before now
 IsStop words coming before now (Refused fault) = (now ≡ before) × IsAnswer words coming (Refusal fault)
+IsStop words coming before now (Unformed fault) = (now ≡ before) × IsAnswer words coming (NoScenario fault)
 IsStop words coming before now OutOfMemory = now ≡ before

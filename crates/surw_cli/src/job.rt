@@ -1,6 +1,7 @@
 ghost use Rattle.std.specs.Prelude.{◌≡◌, ℕ, List, map, string_bytes, IfOk, IfErr, OnOk};
 ghost use Rattle.surw_io.specs.Cause.{one_more};
-ghost use Rattle.surw_cli.specs.Answer.{IsAnswer, IsOrderAnswer, IsDrawsAnswer, Report};
+ghost use Rattle.surw_cli.specs.Answer as answer;
+ghost use Rattle.surw_cli.specs.Answer.{IsAnswer, IsOrderAnswer, IsDrawsAnswer};
 ghost use Rattle.surw_cli.specs.Stop.{IsStop, IsJobStop};
 ghost use Rattle.surw_cli.specs.declared.words.Job.{Job};
 ghost use Rattle.surw_cli.specs.Words.{AskFor};
@@ -9,18 +10,23 @@ use crate::draws_file::read_draws_file;
 use crate::fault::Fault;
 use crate::file_fault::FileFault;
 use crate::order_file::read_order_file;
+use crate::planning::report_of_plan;
 use crate::report::{draws_text, order_text};
+use crate::status::Status;
 use crate::words::{Job, read_ask};
 use draw_split::{JoinFault, SplitFault, draws_of, order_of};
+use scenario_toml::ScenarioFault;
 use std::alloc::Global;
 use surw_base::{FILE_LIMIT, OutOfMemory};
 use surw_io::{FetchFault, Shelf, fetch};
 
 /// Why a job has no report.
-#[derive(Clone, Copy, Debug, PartialEq, Eq)]
+#[derive(Debug, Drop)]
 pub enum Stop {
     /// It was refused, for this cause.
     Refused(Fault),
+    /// Its file is no scenario, for this cause.
+    Unformed(ScenarioFault),
     /// Memory was refused.
     OutOfMemory,
 }
@@ -50,6 +56,20 @@ impl From<FileFault> for Stop {
         match fault {
             FileFault::Lines { number } => Stop::Refused(Fault::Lines { number }),
             FileFault::OutOfMemory => Stop::OutOfMemory,
+        }
+    }
+}
+
+impl From<ScenarioFault> for Stop {
+    ghost use Rattle.std.specs.Prelude.{◌≡◌};
+    ghost use Rattle.surw_cli.specs.Stop.{stop_of_scenario};
+
+    ghost from_gives = { λ fault stop. stop ≡ stop_of_scenario fault };
+
+    fn from(fault: ScenarioFault) -> Self {
+        match fault {
+            ScenarioFault::OutOfMemory => Stop::OutOfMemory,
+            fault => Stop::Unformed(fault),
         }
     }
 }
@@ -124,9 +144,18 @@ impl From<OutOfMemory> for Stop {
     }
 }
 
+/// What a job prints, and the status that it ends with.
+#[derive(Debug, Drop)]
+pub struct Report {
+    /// The status.
+    pub status: Status,
+    /// The text.
+    pub text: Vec<u8>,
+}
+
 /// The report of the job that the words ask for.
-pub fn report_of<F: Shelf>(alloc: Global, words: &[String], shelf: &mut F) -> Result<Vec<u8>, Stop>
-    ensures report { IfOk result (λ text. IsAnswer (map string_bytes words.now) (F.coming shelf.old) (Report text.items)) }
+pub fn report_of<F: Shelf>(alloc: Global, words: &[String], shelf: &mut F) -> Result<Report, Stop>
+    ensures report { IfOk result (λ report. IsAnswer (map string_bytes words.now) (F.coming shelf.old) (answer.Report report.status report.text.items)) }
     ensures calm { OnOk result (F.in_faults shelf.new ≡ F.in_faults shelf.old) }
     ensures stopped { IfErr result (IsStop (map string_bytes words.now) (F.coming shelf.old) (F.in_faults shelf.old) (F.in_faults shelf.new)) }
     ensures opened_once { (job : Job) (name : List ℕ) → AskFor (map string_bytes words.now) job name → F.opens shelf.new ≡ one_more (F.opens shelf.old) }
@@ -139,12 +168,13 @@ pub fn report_of<F: Shelf>(alloc: Global, words: &[String], shelf: &mut F) -> Re
     match ask.job {
         Job::Order => report_of_order(alloc, ask.name, shelf),
         Job::Draws => report_of_draws(alloc, ask.name, shelf),
+        Job::Plan => report_of_plan(alloc, ask.name, shelf),
     }
 }
 
 // The report of the job `order` for the file of a name.
-fn report_of_order<F: Shelf>(alloc: Global, name: &str, shelf: &mut F) -> Result<Vec<u8>, Stop>
-    ensures report { IfOk result (λ text. IsOrderAnswer (F.coming shelf.old name.now) (Report text.items)) }
+fn report_of_order<F: Shelf>(alloc: Global, name: &str, shelf: &mut F) -> Result<Report, Stop>
+    ensures report { IfOk result (λ report. IsOrderAnswer (F.coming shelf.old name.now) (answer.Report report.status report.text.items)) }
     ensures calm { OnOk result (F.in_faults shelf.new ≡ F.in_faults shelf.old) }
     ensures stopped { IfErr result (IsJobStop Job.Order (F.coming shelf.old name.now) (F.in_faults shelf.old) (F.in_faults shelf.new)) }
     ensures opened { F.opens shelf.new ≡ one_more (F.opens shelf.old) }
@@ -152,12 +182,16 @@ fn report_of_order<F: Shelf>(alloc: Global, name: &str, shelf: &mut F) -> Result
     let bytes = fetch(alloc, shelf, name, FILE_LIMIT)?;
     let file = read_order_file(alloc, bytes.as_slice())?;
     let split = order_of(alloc, file.counts.as_slice(), file.draws.as_slice())?;
-    Ok(order_text(alloc, file.counts.threads(), &split)?)
+    let text = order_text(alloc, file.counts.threads(), &split)?;
+    Ok(Report {
+        status: Status::Done,
+        text,
+    })
 }
 
 // The report of the job `draws` for the file of a name.
-fn report_of_draws<F: Shelf>(alloc: Global, name: &str, shelf: &mut F) -> Result<Vec<u8>, Stop>
-    ensures report { IfOk result (λ text. IsDrawsAnswer (F.coming shelf.old name.now) (Report text.items)) }
+fn report_of_draws<F: Shelf>(alloc: Global, name: &str, shelf: &mut F) -> Result<Report, Stop>
+    ensures report { IfOk result (λ report. IsDrawsAnswer (F.coming shelf.old name.now) (answer.Report report.status report.text.items)) }
     ensures calm { OnOk result (F.in_faults shelf.new ≡ F.in_faults shelf.old) }
     ensures stopped { IfErr result (IsJobStop Job.Draws (F.coming shelf.old name.now) (F.in_faults shelf.old) (F.in_faults shelf.new)) }
     ensures opened { F.opens shelf.new ≡ one_more (F.opens shelf.old) }
@@ -165,5 +199,9 @@ fn report_of_draws<F: Shelf>(alloc: Global, name: &str, shelf: &mut F) -> Result
     let bytes = fetch(alloc, shelf, name, FILE_LIMIT)?;
     let file = read_draws_file(alloc, bytes.as_slice())?;
     let draws = draws_of(alloc, file.counts.as_slice(), &file.split)?;
-    Ok(draws_text(alloc, draws.as_slice())?)
+    let text = draws_text(alloc, draws.as_slice())?;
+    Ok(Report {
+        status: Status::Done,
+        text,
+    })
 }

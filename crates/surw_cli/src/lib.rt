@@ -9,6 +9,7 @@ mod job;
 pub mod laws;
 mod lines;
 mod order_file;
+mod planning;
 mod report;
 mod status;
 mod top;

@@ -6,6 +6,7 @@ ghost use Rattle.surw_cli.specs.Words.{AskFor};
 
 use crate::job::{Stop, report_of};
 use crate::status::Status;
+use scenario_faults::put_fault;
 use std::alloc::Global;
 use surw_io::{Shelf, Sink, put_all};
 
@@ -37,13 +38,17 @@ pub fn surw_plain<F: Shelf, O: Sink>(
         → F.opens shelf.new ≡ F.opens shelf.old }
 {
     match report_of(alloc, words, shelf) {
-        Ok(report) => match put_all(out, report.as_slice()) {
-            Ok(()) => Status::Done,
+        Ok(report) => match put_all(out, report.text.as_slice()) {
+            Ok(()) => report.status,
             Err(_) => Status::WriteFault,
         },
         Err(Stop::Refused(fault)) => {
             let _ = fault.put(out);
             fault.status()
+        }
+        Err(Stop::Unformed(fault)) => {
+            let _ = put_fault(&fault, out);
+            Status::Form
         }
         Err(Stop::OutOfMemory) => Status::OutOfMemory,
     }

@@ -9,6 +9,8 @@ pub enum Job {
     Order,
     /// The draws that name an order and offsets.
     Draws,
+    /// The run of a scenario.
+    Plan,
 }
 
 /// What words ask for: a job, and the name of its file.
@@ -47,6 +49,7 @@ fn job_of(word: &str) -> Option<Job>
     match word {
         "order" => Some(Job::Order),
         "draws" => Some(Job::Draws),
+        "plan" => Some(Job::Plan),
         _ => None,
     }
 }

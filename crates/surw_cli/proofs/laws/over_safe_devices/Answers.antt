@@ -1,4 +1,4 @@
-use Rattle.std.proofs.Common.{◌≡◌, ◌⊎◌, Option, Some, None, map, string_bytes, ℕ, List, subst, arith}
+use Rattle.std.proofs.Common.{◌≡◌, ◌⊎◌, Some, None, map, string_bytes, subst, arith}
 use Rattle.surw_cli.specs.Answer.{Coming}
 use Rattle.surw_cli.specs.Ending.{Call, IsAnswered}
 use Rattle.surw_cli.specs.declared.status.Status.TheVariants.{OutOfMemory}

@@ -1,0 +1,28 @@
+use Rattle.std.proofs.lemmas.Result.{err_from_is_err_and}
+use Rattle.surw_cli.proofs.planning.report_of_plan.Goals as goal
+
+-- src/planning.rt:38:16
+pub returns-in_err-text-clause-stopped : goal.returns-in_err-text-clause-stopped
+returns-in_err-text-clause-stopped g c =
+    let p = err_from_is_err_and c.from_residual-in_err-text.result c.from_residual-in_err-text.ensures.1 in
+    rw (p.1, p.2) c.in_ok-bytes.ensures.calm
+
+-- src/planning.rt:27:1
+pub returns-clause-report : goal.returns-clause-report
+returns-clause-report g c =
+    record {
+      scenario = c.in_ok-scenario.scenario;
+      file = record {
+        bytes = c.in_ok-bytes.bytes.items;
+        file = record { held = c.in_ok-bytes.ensures.whole; short = c.in_ok-bytes.ensures.short };
+        form = rw (← c.as_slice.ensures.value) c.in_ok-scenario.ensures.ok;
+      };
+      ran = c.in_ok-run.run';
+      run = record {
+        plan = c.in_ok-plan.plan;
+        planned = rw (← c.counts-counts.ensures) c.in_ok-plan.ensures.plan;
+        run = c.in_ok-run.ensures;
+      };
+      printed = c.in_ok-text.ensures;
+      ends = c.status_of.ensures;
+    }

@@ -1,0 +1,53 @@
+-- The run that the job `plan` makes of a scenario, and the status that its end gives.
+use Rattle.std.specs.Prelude.{ℕ, Bool, List, length, replicate, None, is_some, if◌then◌else◌}
+use Rattle.std.specs.List.{list_any}
+use Rattle.routine_kit.specs.declared.any_routine.AnyRoutine.{AnyRoutine}
+use Rattle.routine_kit.specs.AnyRoutine as routine
+use Rattle.run_rules.specs.declared.plan.Plan.{Plan}
+use Rattle.run_rules.specs.declared.verdict.Verdict.{Verdict}
+use Rattle.run_rules.specs.declared.verdict.Verdict.TheVariants as verdict
+use Rattle.run_rules.specs.Plan.{script_of}
+use Rattle.run_rules.specs.Run.{IsRun, Ran}
+use Rattle.scenario_toml.specs.declared.choice.Choice.{Choice}
+use Rattle.scenario_toml.specs.declared.strategy.Strategy.{Strategy}
+use Rattle.scenario_toml.specs.declared.strategy.Strategy.TheVariants.{Urw, Plain}
+use Rattle.scenario_toml.specs.Plan.{IsPlanOf}
+use Rattle.scenario_toml.specs.State.{ScenarioState}
+use Rattle.seed_draws.specs.declared.any_draws.AnyDraws.{AnyDraws}
+use Rattle.seed_draws.specs.AnyDraws as draws
+use Rattle.seed_draws.specs.Answers.{Source, source_of}
+use Rattle.surw_cli.specs.declared.status.Status.{Status}
+use Rattle.surw_cli.specs.declared.status.Status.TheVariants.{Done, Failing, WrongCount, Asked, StepLimit, Draw}
+
+-- the counts that a run is made with: under the plain strategy zeros, else those of the file
+abbrev pub counts_by : Strategy → ScenarioState → List ℕ
+counts_by Urw scenario = scenario.counts
+counts_by Plain scenario = replicate (length scenario.routines) 0
+
+-- nothing is chosen in place of the file's values
+abbrev pub no_choice : Choice
+no_choice = record { strategy = None; seed = None; depth = None }
+
+-- a source of draws of any kind, by its answers
+abbrev pub any_source : AnyDraws → Source
+any_source source = source_of draws.any_answer draws.any_after draws.any_bent source
+
+-- the run of the scenario's plan
+pub record IsRunOf (scenario : ScenarioState) (ran : Ran) : Type 0 where
+  pub plan : Plan AnyRoutine AnyDraws AnyDraws
+  pub planned : IsPlanOf scenario no_choice (counts_by scenario.strategy scenario) plan
+  pub run : IsRun (script_of routine.any_announced routine.any_after (any_source plan.selected) (any_source plan.other) plan) ran
+
+-- the status of a verdict, where a monitor failed or none did
+abbrev pub status_by : Verdict → Bool → Status
+status_by verdict.Ended failed = if failed then Failing else Done
+status_by (verdict.Deadlock step) failed = Failing
+status_by (verdict.WrongCount step thread counted seen) failed = WrongCount
+status_by (verdict.Draw step fault) failed = Draw
+status_by (verdict.Asked step thread event announced) failed = Asked
+status_by (verdict.Left step thread) failed = Asked
+status_by (verdict.StepLimit step) failed = StepLimit
+
+-- the status that a run ends with
+abbrev pub status_of_run : Ran → Status
+status_of_run ran = status_by ran.verdict (list_any is_some ran.failed)
