@@ -9,6 +9,7 @@ pub mod Picks
 pub mod Positions
 pub mod Scripts
 pub mod Sources
+pub mod Tellings
 pub mod TheRun
 pub mod Unique
 pub mod Verdicts

@@ -1,5 +1,5 @@
 -- Sources whose answers are below their bounds.
-use Rattle.std.proofs.Common.{◌≡◌, ℕ, ◌<◌, ◌≤◌, List, length, get_or, Result, Ok, Err, IfOk, refl}
+use Rattle.std.proofs.Common.{◌≡◌, ℕ, ◌<◌, ◌≤◌, length, get_or, Result, Ok, Err, IfOk, refl}
 use Rattle.seed_draws.proofs.Asked.{answers-below}
 use Rattle.seed_draws.specs.Answers.{answers, source_of}
 use Rattle.seed_draws.specs.declared.draw_fault.DrawFault.{DrawFault}

@@ -70,3 +70,7 @@ pub record IsRun (script : Script) (ran : Ran) : Type 0 where
 -- exactly one journal is the run of a plan
 abbrev pub OneRun : Script → Type 0
 OneRun script = (journal : List Entry) × IsRunJournal script journal × ((other : List Entry) → IsRunJournal script other → other ≡ journal)
+
+-- what is told of the run of a plan is one
+abbrev pub OneTelling : Script → Type 0
+OneTelling script = (ran other : Ran) → IsRun script ran → IsRun script other → other ≡ ran

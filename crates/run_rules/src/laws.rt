@@ -2,7 +2,8 @@
 
 ghost use Rattle.seed_draws.specs.Answers.{source_of};
 ghost use Rattle.run_rules.specs.Plan.{script_of, IsValidPlan};
-ghost use Rattle.run_rules.specs.Run.{OneRun};
+ghost use Rattle.run_rules.specs.Run.{OneRun, OneTelling};
+ghost use Rattle.run_rules.specs.Setup.{Script};
 
 use crate::Plan;
 use routine_kit::Routine;
@@ -15,3 +16,9 @@ pub fn one_run<R: Routine, S: Draws, O: Draws>(plan: &Plan<R, S, O>)
 {
     let _ = plan;
 }
+
+/// What is told of a run is one too, of any script: its world, its verdict, the last words, how many draws were
+/// bent and where each monitor failed.
+pub fn one_telling()
+    ensures { (script : Script) → OneTelling script }
+{}
