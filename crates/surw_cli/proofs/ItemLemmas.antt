@@ -22,10 +22,10 @@ below-one : (n : ℕ) → n < 2 ^ 64 → AllBelow (n ∷ [])
 below-one n small zero d lt = small
 below-one n small (suc k) d lt = absurd (omega arith)
 
-below-head : (n : ℕ) (ns : List ℕ) → AllBelow (n ∷ ns) → n < 2 ^ 64
+pub below-head : (n : ℕ) (ns : List ℕ) → AllBelow (n ∷ ns) → n < 2 ^ 64
 below-head n ns below = below 0 0 (omega arith)
 
-below-tail : (n : ℕ) (ns : List ℕ) → AllBelow (n ∷ ns) → AllBelow ns
+pub below-tail : (n : ℕ) (ns : List ℕ) → AllBelow (n ∷ ns) → AllBelow ns
 below-tail n ns below k d lt = below (suc k) d (omega arith)
 
 -- a reading of what is left continues the numbers to all of them

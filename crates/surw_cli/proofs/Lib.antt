@@ -7,3 +7,12 @@ pub mod Stops
 pub mod Threads
 pub mod WrongLines
 pub mod Safe
+pub mod OneAnswer
+pub mod OneDraws
+pub mod OneFile
+pub mod OneJoin
+pub mod OneLine
+pub mod OneOrder
+pub mod OnePlan
+pub mod OneSplit
+pub mod OneWrongLine

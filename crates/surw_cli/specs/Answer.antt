@@ -1,5 +1,6 @@
 -- The answer to a command line, where no device fails: the words and what the shelf gives for a name decide it.
 use Rattle.std.specs.Prelude.{◌≡◌, ℕ, ◌≤◌, List, Option, Some, Ok, Err, length}
+use Rattle.std.specs.Option.{IsSome}
 use Rattle.draw_split.specs.JoinFault as joining
 use Rattle.draw_split.specs.Named.{Names}
 use Rattle.draw_split.specs.Split.{Parts}
@@ -170,3 +171,12 @@ pub record IsAnswerForJob (words : List (List ℕ)) (coming : Coming) (answer : 
 abbrev pub IsAnswer : List (List ℕ) → Coming → Answer → Type 0
 IsAnswer words coming (Refusal Words) = (job : Job) (name : List ℕ) → AskFor words job name → ⊥
 IsAnswer words coming answer = IsAnswerForJob words coming answer
+
+-- the shelf tells of each name what it gives
+abbrev pub TellsAll : Coming → Type 0
+TellsAll coming = (name : List ℕ) → IsSome (coming name)
+
+-- no two answers hold of one command line, over a shelf that tells what it gives
+abbrev pub OneAnswer : Type 0
+OneAnswer = (words : List (List ℕ)) (coming : Coming) → TellsAll coming
+    → (answer other : Answer) → IsAnswer words coming answer → IsAnswer words coming other → other ≡ answer

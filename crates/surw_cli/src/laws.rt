@@ -1,5 +1,6 @@
-//! What follows from the contract of the top call.
+//! What follows from the contract of the top call, and what pins it.
 ghost use Rattle.std.specs.Prelude.{◌≡◌, ◌≢◌, ◌⊎◌, Some, map, string_bytes};
+ghost use Rattle.surw_cli.specs.Answer.{OneAnswer};
 ghost use Rattle.surw_cli.specs.Ending.{IsAnswered};
 ghost use Rattle.surw_io.specs.Content.{File};
 
@@ -20,3 +21,9 @@ pub fn over_safe_devices(alloc: Global, words: &[String], file: &[u8]) -> Status
     let mut out = SafeSink::new();
     surw_plain(alloc, words, &mut shelf, &mut out)
 }
+
+/// No two answers hold of one command line, over a shelf that tells what it gives. So the status and the bytes
+/// that a call leaves are those of the one answer, unless memory or a device failed.
+pub fn one_answer()
+    ensures { OneAnswer }
+{}
