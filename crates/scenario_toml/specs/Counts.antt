@@ -7,7 +7,7 @@ use Rattle.scenario_toml.specs.Values.{each, number_item}
 
 -- a count
 abbrev pub count_item : List ℕ → ℕ → Data → Result ℕ ScenarioFault
-count_item = number_item 65536
+count_item = number_item (pos 65536)
 
 -- a text is no word that `counts` can have
 abbrev pub no_counts : List ℕ → Option (List ℕ) → ScenarioFault

@@ -1,5 +1,5 @@
 -- The table `tapes`.
-use Rattle.std.specs.Prelude.{List, ℕ, [], ◌∷◌, Result, Ok, codes}
+use Rattle.std.specs.Prelude.{List, ℕ, [], ◌∷◌, pos, Result, Ok, codes}
 use Rattle.toml.specs.Data.{Data, Members, get_member}
 use Rattle.scenario_toml.specs.declared.fault.ScenarioFault.{ScenarioFault}
 use Rattle.scenario_toml.specs.Faults.{and_then}
@@ -13,7 +13,7 @@ pub record Entries : Type 0 where
 
 -- an entry
 abbrev pub entry_item : List ℕ → ℕ → Data → Result ℕ ScenarioFault
-entry_item = number_item greatest
+entry_item = number_item (pos greatest)
 
 -- the keys in their order; each is empty by default
 unfoldable pub tapes : Members → Result Entries ScenarioFault

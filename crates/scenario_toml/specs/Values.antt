@@ -78,9 +78,9 @@ abbrev pub list_or : {A : Type 0} → List A → (List ℕ → ℕ → Data → 
 list_or default read key most None = Ok default
 list_or default read key most (Some d) = list read key most d
 
--- a number as an item
-abbrev pub number_item : ℕ → List ℕ → ℕ → Data → Result ℕ ScenarioFault
-number_item most key place d = number (key_at key place) (pos 0) (pos most) (as_integer d)
+-- a number from 0 on as an item
+abbrev pub number_item : ℤ → List ℕ → ℕ → Data → Result ℕ ScenarioFault
+number_item most key place d = number (key_at key place) (pos 0) most (as_integer d)
 
 -- a text as an item
 abbrev pub text_item : {A : Type 0} → (List ℕ → Option A) → List ℕ → ℕ → Data → Result A ScenarioFault

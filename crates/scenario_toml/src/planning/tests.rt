@@ -98,8 +98,47 @@ fn what_stands_for_the_keys_that_are_absent(rt: HostRuntime) -> Result<(), Fail>
         (plan.world.cells, plan.world.locks, plan.max_steps),
         (0, 0, 65_536)
     );
+    assert_eq!(rt;
+        (plan.world.frames, plan.world.pages, plan.world.slots),
+        (0, 0, 0)
+    );
     assert_eq!(rt; plan.selection.as_slice(), [Pickable::Every].as_slice());
     assert_eq!(rt; (plan.routines.len(), plan.monitors.len()), (0, 0));
     assert_eq!(rt; plan.selected.below(1), Err(DrawFault::Short { place: 0 }));
+    assert_eq!(rt; plan.other.below(9), Ok(0));
+    Ok(())
+}
+
+// How many events a routine announces, of at most ten, where no reply is that of the event before.
+fn events(routine: &mut AnyRoutine) -> u64 {
+    for reply in 0..10 {
+        if routine.announce().is_none() {
+            return reply;
+        }
+        routine.take(reply);
+    }
+    10
+}
+
+#[test]
+fn threads_without_times_and_tries(rt: HostRuntime) -> Result<(), Fail> {
+    let file = b"strategy = 'plain'
+counts = [1, 2]
+tapes = {}
+[[thread]]
+kind = 'steps'
+lines = ['oldest']
+[[thread]]
+kind = 'adder'
+cell = 0
+"
+        .as_slice();
+    let scenario = taken(rt.alloc(), file)?;
+    let mut plan = scenario.plan(rt.alloc(), &NOTHING, scenario.counts())?;
+    let mut each = Vec::new(rt.alloc());
+    for routine in &mut plan.routines {
+        each.push(events(routine))?;
+    }
+    assert_eq!(rt; each.as_slice(), [1, 2].as_slice());
     Ok(())
 }

@@ -6,7 +6,7 @@ ghost use Rattle.scenario_toml.specs.Counts.{counts, fitting, no_counts};
 ghost use Rattle.scenario_toml.specs.Faults.{IsFault, IsFaultOf};
 
 use crate::read::items::{Item, read_items};
-use crate::read::values::{not_named, number, value_at};
+use crate::read::values::{not_named, number_item, value_at};
 use crate::{KeyName, ScenarioFault};
 use draw_split::Weights;
 use std::alloc::Global;
@@ -97,7 +97,7 @@ impl Item for u32 {
         place: usize,
         value: &Value,
     ) -> Result<u32, ScenarioFault> {
-        let count = number(key.at(alloc, place)?, value, 0, i64::from(STEPS))?;
+        let count = number_item(alloc, key, place, value, i64::from(STEPS))?;
         Ok(count as u32)
     }
 }

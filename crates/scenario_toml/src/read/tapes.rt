@@ -7,7 +7,7 @@ ghost use Rattle.scenario_toml.specs.Tapes.{tapes, entry_item};
 ghost use Rattle.scenario_toml.specs.Values.{list_or};
 
 use crate::read::items::Item;
-use crate::read::values::{list_of, number, only, value_at};
+use crate::read::values::{list_of, number_item, only, value_at};
 use crate::{KeyName, ScenarioFault};
 use std::alloc::Global;
 use surw_base::STEPS;
@@ -60,6 +60,6 @@ impl Item for u64 {
         place: usize,
         value: &Value,
     ) -> Result<u64, ScenarioFault> {
-        number(key.at(alloc, place)?, value, 0, i64::MAX)
+        number_item(alloc, key, place, value, i64::MAX)
     }
 }

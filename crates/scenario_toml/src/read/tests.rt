@@ -1,9 +1,13 @@
 use crate::{ScenarioFault, read_scenario};
 use std::alloc::{AllocError, Global};
+use std::process::Abort;
 use std::test::Fail;
 
 // The top keys that have to be there, as a file without threads has them.
 const HEAD: &str = "strategy = 'urw'\ncounts = []\ntapes = {}\n";
+
+// A thread without a fault, and the head of a second one.
+const FIRST: &str = "[[thread]]\nkind = 'adder'\ncell = 0\n[[thread]]\n";
 
 fn text(bytes: &[u8]) -> &str {
     std::str::from_utf8(bytes).unwrap_or("no text")
@@ -39,6 +43,20 @@ fn answer(alloc: Global, file: &[u8]) -> Result<String, AllocError> {
     }
 }
 
+// Each of these files, behind a front, is answered with what stands beside it.
+fn assert_answers(
+    rt: &impl Abort,
+    alloc: Global,
+    front: &str,
+    rows: &[(&str, &str)],
+) -> Result<(), Fail> {
+    for (rest, due) in rows {
+        let file = format!(in alloc; "{front}{rest}")?;
+        assert_eq!(rt; answer(alloc, file.as_bytes())?.as_str(), *due, "{rest}");
+    }
+    Ok(())
+}
+
 // A file with so many items between its two parts.
 fn long(
     alloc: Global,
@@ -56,121 +74,195 @@ fn long(
 }
 
 #[test]
-fn faults_of_the_top_table(rt: HostRuntime) -> Result<(), Fail> {
+fn faults_of_the_steps_and_the_strategy(rt: HostRuntime) -> Result<(), Fail> {
     let rows = [
         ("", "missing strategy"),
         ("cels = 1", "unknown cels"),
         ("max_steps = 0\nzz = 1\nmm = 1\nnn = 1", "unknown mm"),
-        ("max_steps = 0", "range max_steps 0 1 65536"),
-        ("max_steps = -1", "range max_steps -1 1 65536"),
-        ("max_steps = 65537", "range max_steps 65537 1 65536"),
         ("max_steps = '1'", "wrong_kind max_steps"),
+        ("max_steps = -1", "range max_steps -1 1 65536"),
+        ("max_steps = 0", "range max_steps 0 1 65536"),
+        ("max_steps = 1", "missing strategy"),
+        ("max_steps = 65536", "missing strategy"),
+        ("max_steps = 65537", "range max_steps 65537 1 65536"),
         ("strategy = 1", "wrong_kind strategy"),
         ("strategy = 'sruw'\nseed = '7'", "name strategy sruw"),
+        ("strategy = 'URW'", "name strategy URW"),
         ("strategy = 'surw'", "name strategy surw"),
         ("strategy = 'pct'", "name strategy pct"),
+        ("strategy = 'urw'", "missing counts"),
         ("strategy = 'plain'", "missing counts"),
-        ("strategy = 'urw'\nseed = '7'", "wrong_kind seed"),
-        (
-            "strategy = 'urw'\nseed = -1",
-            "range seed -1 0 9223372036854775807",
-        ),
-        ("strategy = 'urw'\ndepth = 0", "range depth 0 1 16"),
-        ("strategy = 'urw'\ndepth = 17", "range depth 17 1 16"),
-        ("strategy = 'urw'\nselect = 'all'", "wrong_kind select"),
-        ("strategy = 'urw'\nselect = [1]", "wrong_kind select.0"),
-        (
-            "strategy = 'urw'\nselect = ['all', 'lok']",
-            "name select.1 lok",
-        ),
     ];
-    for (file, fault) in &rows {
-        assert_eq!(rt;
-            answer(rt.alloc(), file.as_bytes())?.as_str(),
-            *fault,
-            "{file}"
-        );
-    }
-    Ok(())
+    assert_answers(&rt, rt.alloc(), "", &rows)
 }
 
 #[test]
-fn faults_of_the_lists_and_tables(rt: HostRuntime) -> Result<(), Fail> {
+fn faults_of_the_seed_and_the_depth(rt: HostRuntime) -> Result<(), Fail> {
+    let rows = [
+        ("seed = '7'", "wrong_kind seed"),
+        ("seed = -1", "range seed -1 0 9223372036854775807"),
+        ("seed = 0", "missing counts"),
+        ("seed = 9223372036854775807", "missing counts"),
+        ("depth = 1.0", "wrong_kind depth"),
+        ("depth = 0", "range depth 0 1 16"),
+        ("depth = 1", "missing counts"),
+        ("depth = 16", "missing counts"),
+        ("depth = 17", "range depth 17 1 16"),
+    ];
+    assert_answers(&rt, rt.alloc(), "strategy = 'urw'\n", &rows)
+}
+
+#[test]
+fn faults_of_the_selection(rt: HostRuntime) -> Result<(), Fail> {
+    let rows = [
+        ("select = 'all'", "wrong_kind select"),
+        ("select = [1]", "wrong_kind select.0"),
+        ("select = ['all', 'lok']", "name select.1 lok"),
+        ("select = []", "missing counts"),
+        (
+            "select = ['all', 'lock', 'cell', 'cache', 'disk', 'log', 'check']",
+            "missing counts",
+        ),
+        (
+            "select = ['lock 0', 'lock 18446744073709551615']",
+            "missing counts",
+        ),
+        (
+            "select = ['cell 0', 'cell 18446744073709551615']",
+            "missing counts",
+        ),
+        (
+            "select = ['lock 18446744073709551616']",
+            "name select.0 lock 18446744073709551616",
+        ),
+        (
+            "select = ['cell 18446744073709551616']",
+            "name select.0 cell 18446744073709551616",
+        ),
+        ("select = ['lock 01']", "name select.0 lock 01"),
+        ("select = ['cell  1']", "name select.0 cell  1"),
+        ("select = ['disk 1']", "name select.0 disk 1"),
+    ];
+    assert_answers(&rt, rt.alloc(), "strategy = 'urw'\n", &rows)
+}
+
+#[test]
+fn faults_of_the_counts(rt: HostRuntime) -> Result<(), Fail> {
     let rows = [
         ("counts = 1", "wrong_kind counts"),
         ("counts = 'profile'", "name counts profile"),
         ("counts = [1, true]", "wrong_kind counts.1"),
-        ("counts = [65537]", "range counts.0 65537 0 65536"),
         ("counts = [-1]", "range counts.0 -1 0 65536"),
-        ("counts = []\nmonitors = 'expect'", "wrong_kind monitors"),
-        (
-            "counts = []\nmonitors = ['expect', 'expct']",
-            "name monitors.1 expct",
-        ),
-        (
-            "counts = []\nmonitors = ['cell_end 1']",
-            "name monitors.0 cell_end 1",
-        ),
-        ("counts = []\nworld = 1", "wrong_kind world"),
-        ("counts = []\nworld = {}", "missing tapes"),
-        ("counts = []\ntapes = []", "wrong_kind tapes"),
-        ("counts = []\ntapes = {}\nthread = 1", "wrong_kind thread"),
-        ("counts = []\ntapes = {}\n[thread]", "wrong_kind thread"),
-        (
-            "counts = []\ntapes = {}\nworld.cels = 1\nworld.cell = 1",
-            "unknown world.cell",
-        ),
-        (
-            "counts = []\ntapes.x = 1\nworld.cells = 65",
-            "range world.cells 65 0 64",
-        ),
-        (
-            "counts = []\ntapes.x = 1\nworld.cells = -1",
-            "range world.cells -1 0 64",
-        ),
-        (
-            "counts = []\ntapes.x = 1\nworld.locks = 9",
-            "range world.locks 9 0 8",
-        ),
-        (
-            "counts = []\ntapes.x = 1\nworld.frames = 1",
-            "range world.frames 1 0 0",
-        ),
-        (
-            "counts = []\ntapes.x = 1\nworld.pages = 1",
-            "range world.pages 1 0 0",
-        ),
-        (
-            "counts = []\ntapes.x = 1\nworld.slots = 1.5",
-            "wrong_kind world.slots",
-        ),
-        ("counts = []\ntapes.x = 1\nthread = [1]", "unknown tapes.x"),
-        (
-            "counts = []\ntapes.selected = 1",
-            "wrong_kind tapes.selected",
-        ),
-        (
-            "counts = []\ntapes.selected = [0, '1']",
-            "wrong_kind tapes.selected.1",
-        ),
-        (
-            "counts = []\ntapes.other = [-1]",
-            "range tapes.other.0 -1 0 9223372036854775807",
-        ),
+        ("counts = [0, 65536]", "missing tapes"),
+        ("counts = [65537]", "range counts.0 65537 0 65536"),
     ];
-    for (rest, fault) in &rows {
-        let file = format!(in rt.alloc(); "strategy = 'urw'\n{rest}")?;
-        assert_eq!(rt;
-            answer(rt.alloc(), file.as_bytes())?.as_str(),
-            *fault,
-            "{rest}"
-        );
-    }
-    Ok(())
+    assert_answers(&rt, rt.alloc(), "strategy = 'urw'\n", &rows)
 }
 
 #[test]
-fn faults_of_a_thread(rt: HostRuntime) -> Result<(), Fail> {
+fn faults_of_the_monitors(rt: HostRuntime) -> Result<(), Fail> {
+    let rows = [
+        ("monitors = 'expect'", "wrong_kind monitors"),
+        ("monitors = [1]", "wrong_kind monitors.0"),
+        ("monitors = ['expect', 'expct']", "name monitors.1 expct"),
+        ("monitors = []", "missing tapes"),
+        (
+            "monitors = ['write_ahead', 'log_whole', 'expect']",
+            "missing tapes",
+        ),
+        (
+            "monitors = ['cell_end 0 0', 'cell_end 18446744073709551615 18446744073709551615']",
+            "missing tapes",
+        ),
+        ("monitors = ['cell_end 1']", "name monitors.0 cell_end 1"),
+        (
+            "monitors = ['cell_end 18446744073709551616 0']",
+            "name monitors.0 cell_end 18446744073709551616 0",
+        ),
+        (
+            "monitors = ['cell_end 0 18446744073709551616']",
+            "name monitors.0 cell_end 0 18446744073709551616",
+        ),
+        (
+            "monitors = ['cell_end 01 0']",
+            "name monitors.0 cell_end 01 0",
+        ),
+        (
+            "monitors = ['cell_end 0  1']",
+            "name monitors.0 cell_end 0  1",
+        ),
+        ("monitors = ['expect ']", "name monitors.0 expect "),
+    ];
+    assert_answers(&rt, rt.alloc(), "strategy = 'urw'\ncounts = []\n", &rows)
+}
+
+#[test]
+fn faults_of_the_tables_and_the_tapes(rt: HostRuntime) -> Result<(), Fail> {
+    let rows = [
+        ("world = 1", "wrong_kind world"),
+        ("world = {}", "missing tapes"),
+        ("tapes = []", "wrong_kind tapes"),
+        ("tapes = {}", "taken"),
+        ("tapes = {}\nthread = 1", "wrong_kind thread"),
+        ("tapes = {}\n[thread]", "wrong_kind thread"),
+        ("tapes = {}\nthread = []", "taken"),
+        ("tapes.x = 1\nthread = [1]", "unknown tapes.x"),
+        ("tapes.x = 1\nworld.cells = 65", "range world.cells 65 0 64"),
+        ("tapes.selected = []\ntapes.other = []", "taken"),
+        ("tapes.selected = 1", "wrong_kind tapes.selected"),
+        ("tapes.selected = [0, '1']", "wrong_kind tapes.selected.1"),
+        (
+            "tapes.selected = [-1]",
+            "range tapes.selected.0 -1 0 9223372036854775807",
+        ),
+        ("tapes.selected = [0, 9223372036854775807]", "taken"),
+        ("tapes.other = {}", "wrong_kind tapes.other"),
+        ("tapes.other = [0, 1.5]", "wrong_kind tapes.other.1"),
+        (
+            "tapes.other = [-1]",
+            "range tapes.other.0 -1 0 9223372036854775807",
+        ),
+        ("tapes.other = [0, 9223372036854775807]", "taken"),
+        (
+            "tapes.other = 1\ntapes.selected = 1",
+            "wrong_kind tapes.selected",
+        ),
+    ];
+    assert_answers(&rt, rt.alloc(), "strategy = 'urw'\ncounts = []\n", &rows)
+}
+
+#[test]
+fn faults_of_the_world(rt: HostRuntime) -> Result<(), Fail> {
+    let rows = [
+        ("cels = 1\ncell = 1", "unknown world.cell"),
+        ("cells = '1'", "wrong_kind world.cells"),
+        ("cells = -1", "range world.cells -1 0 64"),
+        ("cells = 0", "taken"),
+        ("cells = 64", "taken"),
+        ("cells = 65", "range world.cells 65 0 64"),
+        ("locks = true", "wrong_kind world.locks"),
+        ("locks = -1", "range world.locks -1 0 8"),
+        ("locks = 0", "taken"),
+        ("locks = 8", "taken"),
+        ("locks = 9\ncells = 65", "range world.cells 65 0 64"),
+        ("locks = 9", "range world.locks 9 0 8"),
+        ("frames = []", "wrong_kind world.frames"),
+        ("frames = -1", "range world.frames -1 0 0"),
+        ("frames = 1", "range world.frames 1 0 0"),
+        ("pages = {}", "wrong_kind world.pages"),
+        ("pages = -1", "range world.pages -1 0 0"),
+        ("pages = 1", "range world.pages 1 0 0"),
+        ("slots = 1.5", "wrong_kind world.slots"),
+        ("slots = -1", "range world.slots -1 0 0"),
+        ("slots = 1", "range world.slots 1 0 0"),
+        ("frames = 0\npages = 0\nslots = 0", "taken"),
+    ];
+    let front = format!(in rt.alloc(); "{HEAD}[world]\n")?;
+    assert_answers(&rt, rt.alloc(), front.as_str(), &rows)
+}
+
+#[test]
+fn faults_of_the_kind_of_a_thread(rt: HostRuntime) -> Result<(), Fail> {
     let rows = [
         ("cell = 0", "missing thread.1.kind"),
         ("kind = 1", "wrong_kind thread.1.kind"),
@@ -178,61 +270,56 @@ fn faults_of_a_thread(rt: HostRuntime) -> Result<(), Fail> {
         ("kind = 'cache_user'", "name thread.1.kind cache_user"),
         ("kind = 'log_writer'", "name thread.1.kind log_writer"),
         ("kind = 'steps'\nzz = 1\ncell = 1", "unknown thread.1.cell"),
-        ("kind = 'steps'\ntimes = 0", "missing thread.1.lines"),
-        ("kind = 'steps'\nlines = 1", "wrong_kind thread.1.lines"),
+        ("kind = 'adder'\nlines = []", "unknown thread.1.lines"),
+    ];
+    assert_answers(
+        &rt,
+        rt.alloc(),
+        HEAD,
+        &[("thread = [1]", "wrong_kind thread.0")],
+    )?;
+    let front = format!(in rt.alloc(); "{HEAD}{FIRST}")?;
+    assert_answers(&rt, rt.alloc(), front.as_str(), &rows)
+}
+
+#[test]
+fn faults_of_a_thread_of_lines(rt: HostRuntime) -> Result<(), Fail> {
+    let rows = [
+        ("times = 0", "missing thread.1.lines"),
+        ("lines = 1", "wrong_kind thread.1.lines"),
+        ("lines = ['load 0', 1]", "wrong_kind thread.1.lines.1"),
+        ("lines = ['load  0']", "name thread.1.lines.0 load  0"),
+        ("lines = []", "range counts 0 2 2"),
+        ("lines = []\ntimes = '1'", "wrong_kind thread.1.times"),
+        ("lines = []\ntimes = 0", "range thread.1.times 0 1 4096"),
+        ("lines = []\ntimes = 1", "range counts 0 2 2"),
+        ("lines = []\ntimes = 4096", "range counts 0 2 2"),
         (
-            "kind = 'steps'\nlines = ['load 0', 1]",
-            "wrong_kind thread.1.lines.1",
-        ),
-        (
-            "kind = 'steps'\nlines = ['load  0']",
-            "name thread.1.lines.0 load  0",
-        ),
-        (
-            "kind = 'steps'\nlines = []\ntimes = 0",
-            "range thread.1.times 0 1 4096",
-        ),
-        (
-            "kind = 'steps'\nlines = []\ntimes = 4097",
+            "lines = []\ntimes = 4097",
             "range thread.1.times 4097 1 4096",
         ),
-        ("kind = 'adder'\nlines = []", "unknown thread.1.lines"),
-        ("kind = 'adder'", "missing thread.1.cell"),
-        ("kind = 'adder'\ncell = -1", "range thread.1.cell -1 0 63"),
-        ("kind = 'adder'\ncell = 64", "range thread.1.cell 64 0 63"),
-        (
-            "kind = 'adder'\ncell = 63\ntries = 0",
-            "range thread.1.tries 0 1 4096",
-        ),
-        (
-            "kind = 'adder'\ncell = 0\ntries = 4097",
-            "range thread.1.tries 4097 1 4096",
-        ),
-        (
-            "kind = 'adder'\ncell = 0\ntries = 4096",
-            "range counts 0 2 2",
-        ),
-        (
-            "kind = 'steps'\nlines = []\ntimes = 4096",
-            "range counts 0 2 2",
-        ),
     ];
-    for (rest, fault) in &rows {
-        let file = format!(in rt.alloc();
-            "{HEAD}[[thread]]\nkind = 'adder'\ncell = 0\n[[thread]]\n{rest}"
-        )?;
-        assert_eq!(rt;
-            answer(rt.alloc(), file.as_bytes())?.as_str(),
-            *fault,
-            "{rest}"
-        );
-    }
-    let file = format!(in rt.alloc(); "{HEAD}thread = [1]")?;
-    assert_eq!(rt;
-        answer(rt.alloc(), file.as_bytes())?.as_str(),
-        "wrong_kind thread.0"
-    );
-    Ok(())
+    let front = format!(in rt.alloc(); "{HEAD}{FIRST}kind = 'steps'\n")?;
+    assert_answers(&rt, rt.alloc(), front.as_str(), &rows)
+}
+
+#[test]
+fn faults_of_a_thread_that_adds(rt: HostRuntime) -> Result<(), Fail> {
+    let rows = [
+        ("", "missing thread.1.cell"),
+        ("cell = '0'", "wrong_kind thread.1.cell"),
+        ("cell = -1", "range thread.1.cell -1 0 63"),
+        ("cell = 0", "range counts 0 2 2"),
+        ("cell = 63", "range counts 0 2 2"),
+        ("cell = 64", "range thread.1.cell 64 0 63"),
+        ("cell = 0\ntries = 1.0", "wrong_kind thread.1.tries"),
+        ("cell = 0\ntries = 0", "range thread.1.tries 0 1 4096"),
+        ("cell = 0\ntries = 1", "range counts 0 2 2"),
+        ("cell = 0\ntries = 4096", "range counts 0 2 2"),
+        ("cell = 0\ntries = 4097", "range thread.1.tries 4097 1 4096"),
+    ];
+    let front = format!(in rt.alloc(); "{HEAD}{FIRST}kind = 'adder'\n")?;
+    assert_answers(&rt, rt.alloc(), front.as_str(), &rows)
 }
 
 #[test]
@@ -252,6 +339,14 @@ fn the_counts_come_after_the_threads_and_the_cells_last(rt: HostRuntime) -> Resu
             "name monitors.0 cell_end 70000 1",
         ),
         (
+            "counts = [0]\nthread = [{kind = 'adder', cell = 0}]",
+            "taken",
+        ),
+        (
+            "counts = [65536]\nthread = [{kind = 'adder', cell = 0}]",
+            "taken",
+        ),
+        (
             "counts = [65536, 1]\nthread = [{kind = 'adder', cell = 0}, {kind = 'adder', cell = 0}]",
             "range counts 65537 0 65536",
         ),
@@ -264,28 +359,22 @@ fn the_counts_come_after_the_threads_and_the_cells_last(rt: HostRuntime) -> Resu
             "taken",
         ),
         (
-            "counts = []\nworld.cells = 64\nmonitors = ['cell_end 63 18446744073709551616']",
-            "name monitors.0 cell_end 63 18446744073709551616",
+            "counts = []\nworld.cells = 64\nmonitors = ['cell_end 64 0']",
+            "name monitors.0 cell_end 64 0",
         ),
     ];
-    for (rest, fault) in &rows {
-        let file = format!(in rt.alloc(); "strategy = 'urw'\ntapes = {{}}\n{rest}")?;
-        assert_eq!(rt;
-            answer(rt.alloc(), file.as_bytes())?.as_str(),
-            *fault,
-            "{rest}"
-        );
-    }
-    Ok(())
+    assert_answers(&rt, rt.alloc(), "strategy = 'urw'\ntapes = {}\n", &rows)
 }
 
 #[test]
 fn bytes_that_are_no_toml(rt: HostRuntime) -> Result<(), Fail> {
-    let rows: [&[u8]; 4] = [
+    let rows: [&[u8]; 6] = [
         b"= 1",
         b"strategy = '\xff'",
         b"seed = 1\nseed = 1",
         b"seed = 9223372036854775808",
+        b"tapes.selected = [9223372036854775808]",
+        b"tapes.other = [9223372036854775808]",
     ];
     for (place, file) in rows.iter().enumerate() {
         assert_eq!(rt;
@@ -339,13 +428,30 @@ fn arrays_up_to_their_length(rt: HostRuntime) -> Result<(), Fail> {
             "{item} {times}"
         );
     }
-    let head = "strategy = 'urw'\ncounts = []\ntapes.other = [";
-    let file = long(rt.alloc(), head, "9223372036854775807,", 65_536, "]")?;
-    assert_eq!(rt; answer(rt.alloc(), file.as_bytes())?.as_str(), "taken");
-    let file = long(rt.alloc(), head, "0,", 65_537, "]")?;
-    assert_eq!(rt;
-        answer(rt.alloc(), file.as_bytes())?.as_str(),
-        "range tapes.other 65537 0 65536"
-    );
+    Ok(())
+}
+
+#[test]
+fn tapes_up_to_their_length(rt: HostRuntime) -> Result<(), Fail> {
+    let rows = [
+        ("selected", "9223372036854775807, ", 65_536, "taken"),
+        (
+            "selected",
+            "0, ",
+            65_537,
+            "range tapes.selected 65537 0 65536",
+        ),
+        ("other", "9223372036854775807, ", 65_536, "taken"),
+        ("other", "0, ", 65_537, "range tapes.other 65537 0 65536"),
+    ];
+    for (tape, entry, times, fault) in &rows {
+        let front = format!(in rt.alloc(); "strategy = 'urw'\ncounts = []\ntapes.{tape} = [")?;
+        let file = long(rt.alloc(), front.as_str(), entry, *times, "]")?;
+        assert_eq!(rt;
+            answer(rt.alloc(), file.as_bytes())?.as_str(),
+            *fault,
+            "{tape} {times}"
+        );
+    }
     Ok(())
 }

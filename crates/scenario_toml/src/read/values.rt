@@ -1,4 +1,4 @@
-ghost use Rattle.std.specs.Prelude.{◌≡◌, ◌≤◌, ◌++◌, ◌≤ℤ◌, All, map, pos, nat_abs, length, option_map, IfOk, IfErr, Ok, Err};
+ghost use Rattle.std.specs.Prelude.{◌≡◌, ◌≤◌, ◌++◌, ◌≤ℤ◌, ◌||◌, All, int_lt, map, pos, nat_abs, length, option_map, IfOk, IfErr, Ok, Err};
 ghost use Rattle.std.specs.List.{list_any};
 ghost use Rattle.std.specs.Str.{bytes_eq};
 ghost use Rattle.toml.specs.Data.{as_integer, get_member};
@@ -6,7 +6,7 @@ ghost use Rattle.toml.specs.View.{view, items_view, table_view};
 ghost use Rattle.scenario_toml.specs.declared.fault.ScenarioFault.TheVariants.{Name};
 ghost use Rattle.scenario_toml.specs.Faults.{IsFault, IsFaultOf};
 ghost use Rattle.scenario_toml.specs.Rules.{rule_of, IsRule};
-ghost use Rattle.scenario_toml.specs.Values.{number, number_in, text_in, array, list, first_unknown, only};
+ghost use Rattle.scenario_toml.specs.Values.{number, number_in, number_item, text_in, array, list, first_unknown, only};
 
 use crate::keys::NumberKey;
 use crate::read::items::{Item, read_items};
@@ -22,13 +22,8 @@ pub(crate) fn value_at<'a>(table: &'a Table, name: &str) -> Option<&'a Value>
     table.get(name)
 }
 
-/// A whole number in its range.
-pub(crate) fn number(
-    key: KeyName,
-    value: &Value,
-    least: i64,
-    most: i64,
-) -> Result<u64, ScenarioFault>
+// A whole number in its range.
+fn number(key: KeyName, value: &Value, least: i64, most: i64) -> Result<u64, ScenarioFault>
     requires { pos 0 ≤ℤ least }
     ensures same { result ≡ number key least most (as_integer (view value.now)) }
     ensures within { IfOk result (λ n. (nat_abs least ≤ n) × (n ≤ nat_abs most)) }
@@ -36,7 +31,7 @@ pub(crate) fn number(
     match value.as_integer() {
         None => Err(ScenarioFault::WrongKind { key }),
         Some(kept) => {
-            if kept < least || kept > most {
+            if is_outside(kept, least, most) {
                 return Err(ScenarioFault::Range {
                     key,
                     kept,
@@ -46,6 +41,32 @@ pub(crate) fn number(
             }
             Ok(kept as u64)
         }
+    }
+}
+
+// Whether a number is out of its range.
+fn is_outside(kept: i64, least: i64, most: i64) -> bool
+    ensures { result ≡ (int_lt kept least || int_lt most kept) }
+{
+    kept < least || kept > most
+}
+
+/// A whole number from 0 on that is an item of the array with this key.
+pub(crate) fn number_item(
+    alloc: Global,
+    key: &KeyName,
+    place: usize,
+    value: &Value,
+    most: i64,
+) -> Result<u64, ScenarioFault>
+    ensures ok { IfOk result (λ n. number_item most key.now place (view value.now) ≡ Ok n) }
+    ensures fault { IfErr result (IsFaultOf (number_item most key.now place (view value.now))) }
+    ensures within { IfOk result (λ n. n ≤ nat_abs most) }
+{
+    match value.as_integer() {
+        Some(kept) if !is_outside(kept, 0, most) => Ok(kept as u64),
+        // Only a fault names its item, since each name takes memory and a tape has many items.
+        _ => number(key.at(alloc, place)?, value, 0, most),
     }
 }
 
