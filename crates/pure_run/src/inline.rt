@@ -89,7 +89,8 @@ fn make_step<R: Routine, S: Draws, O: Draws>(
     ensures inline { IsInline R.announced R.after_reply plan.now (source_of S.answer S.after_answer S.bent_draws plan.now.selected) (source_of O.answer O.after_answer O.bent_draws plan.now.other) core.new routines.new.items }
     ensures steps { length core.new.journal ≡ length core.old.journal + 1 }
 {
-    let _plan = plan;
+    // The contract alone names the plan.
+    let _ = plan;
     let reply = core.perform(thread);
     let routine = &mut routines[usize::from(thread.get())];
     routine.take(reply);
