@@ -1,7 +1,7 @@
 -- The lines of a text, and lines that list numbers.
 use Rattle.std.specs.Prelude.{◌≡◌, ◌==◌, ℕ, ◌^◌, ◌<◌, List, [], ◌∷◌, ◌++◌, All, if◌then◌else◌}
-use Rattle.std.specs.List.{flat_map}
 use Rattle.std.specs.Fmt.{decimal}
+pub use Rattle.report_text.specs.Lines.{items_text, line, list_text}
 
 -- the lines with a byte more at the front of the first
 abbrev pub with_first_byte : ℕ → List (List ℕ) → List (List ℕ)
@@ -12,18 +12,6 @@ with_first_byte byte (line ∷ lines) = (byte ∷ line) ∷ lines
 unfoldable pub lines_of : List ℕ → List (List ℕ)
 lines_of [] = []
 lines_of (byte ∷ bytes) = if byte == 10 then [] ∷ lines_of bytes else with_first_byte byte (lines_of bytes)
-
--- numbers in decimal, each behind a space (32)
-abbrev pub items_text : List ℕ → List ℕ
-items_text numbers = flat_map (λ n. 32 ∷ decimal n) numbers
-
--- a word and then numbers
-abbrev pub list_text : List ℕ → List ℕ → List ℕ
-list_text word numbers = word ++ items_text numbers
-
--- a line that is ended by a line feed
-abbrev pub line : List ℕ → List ℕ
-line text = text ++ 10 ∷ []
 
 -- the line is a word and these numbers, each below 2 ^ 64
 pub record IsListLine (word numbers line : List ℕ) : Type 0 where
