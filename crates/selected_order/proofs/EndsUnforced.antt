@@ -1,0 +1,186 @@
+-- The run under SURW of a script that is never blocked and whose counts are true ends, and no entry is forced.
+use Rattle.std.proofs.Common.{◌≡◌, ◌≢◌, ℕ, zero, suc, ◌+◌, ◌==◌, ◌<◌, ◌≤◌, true, false, IsOk, List, [], ◌∷◌, ◌++◌, length, sum, take, get_or, Option, None, Some, ap, sym, subst, ◌∙◌, inl, inr, arith}
+use Rattle.std.proofs.Math.Seq.{take-length}
+use Rattle.std.proofs.lemmas.Bool.{cases_lt, false≢true, ne_eqb, cond-true, cond-false}
+use Rattle.std.proofs.lemmas.List.{length_push}
+use Rattle.std.proofs.lemmas.List.Elements.{All-from_get_or}
+use Rattle.std.proofs.lemmas.List.Folds.{list_any_at, list_any_none}
+use Rattle.std.proofs.lemmas.Option.{same_Some, slice_get_within}
+use Rattle.std.specs.List.{list_any, slice_get}
+use Rattle.std.specs.Option.{option_map, is_some}
+use Rattle.walk_rules.specs.declared.picked.Picked.TheVariants.{Grant}
+use Rattle.walk_rules.specs.declared.rule.Rule.TheVariants.{Surw}
+use Rattle.walk_rules.specs.declared.seen.Seen.{Seen}
+use Rattle.walk_rules.specs.declared.seen.Seen.TheVariants.{Over}
+use Rattle.walk_rules.specs.Seen.{is_able, seen_of}
+use Rattle.run_rules.specs.declared.entry.Entry.{Entry}
+use Rattle.run_rules.specs.declared.verdict.Verdict.{Verdict}
+use Rattle.run_rules.specs.declared.verdict.Verdict.TheVariants.{Ended, Deadlock, WrongCount, StepLimit}
+use Rattle.run_rules.specs.Legal.{IsLegal}
+use Rattle.run_rules.specs.Made.{events_made}
+use Rattle.run_rules.specs.Position.{Position, position_of, seen_at}
+use Rattle.run_rules.specs.Setup.{Setup, Script}
+use Rattle.run_rules.specs.Told.{said}
+use Rattle.run_rules.specs.Choice.{choice}
+use Rattle.run_rules.specs.Verdict.{verdict_at, wrong_count, ended, step_limit, deadlock, refused, first_of}
+use Rattle.run_rules.proofs.Fronts.{AtEach, IsNext, next-at, each-front}
+use Rattle.run_rules.proofs.Scripts.{legal-front, length-words}
+use Rattle.run_rules.proofs.Words.{some-able, has-word, length-seen}
+use Rattle.selected_order.specs.SurwScript.{HasEnded, IsTame, EndsUnforced}
+use Rattle.seed_draws.specs.Answers.{IsSource, NeverRefuses}
+use Rattle.seed_draws.specs.Falling.{falling}
+use Rattle.selected_order.proofs.Completions.{HasSaid, some-said, step_of, step-legal}
+use Rattle.selected_order.proofs.Ends.{wrong-is}
+use Rattle.selected_order.proofs.EndsInOrder.{choice-is, unforced-able}
+use Rattle.run_rules.proofs.Goings.{GoesOnAfter, going-fronts}
+use Rattle.run_rules.proofs.Verdicts.{grant-parts, none-verdict, verdict-none}
+use Rattle.selected_order.proofs.Goes.{no-deadlock}
+use Rattle.selected_order.proofs.InOrder.{IsInOrder, in-order-none, in-order-more}
+use Rattle.selected_order.proofs.Unforced.{none-miscounted, word-of, seen-able, IsFreeChoice, has-narrow, free-choice, other-answers}
+
+-- what is asked of a script and its sources
+pub record IsDrawable (script : Script) : Type 0 where
+  pub rule : script.setup.rule ≡ Surw
+  pub tame : IsTame script
+  pub selected : IsSource script.setup.selected.answers
+  pub other : IsSource script.setup.other.answers
+  pub all : IsOk (script.setup.selected.answers (falling (sum script.setup.counts)))
+  pub never : NeverRefuses script.setup.other.answers
+
+-- ---- where a thread announces an event there is no deadlock, and the other way round
+
+said-able : (script : Script) (journal : List Entry) → IsTame script → IsLegal script journal → HasSaid (said script journal) script.setup.threads
+    → deadlock script.setup (position_of script journal) ≡ None
+said-able script journal tame legal going =
+    let x : Position = position_of script journal in
+    let view : List Seen = seen_at script.setup x in
+    let able : is_able (seen_of view going.thread) ≡ true = ap is_able (seen-able script journal going.thread going.event tame legal going.within going.is) in
+    let some : list_any is_able view ≡ true =
+    list_any_at is_able view going.thread Over (omega (arith, going.within, length-seen script.setup x, length-words script journal)) able in
+    cond-true (list_any is_able view) None (Some (Deadlock (length x.journal))) some
+
+able-said : (script : Script) (journal : List Entry) → deadlock script.setup (position_of script journal) ≡ None → HasSaid (said script journal) script.setup.threads
+able-said script journal going =
+    let x : Position = position_of script journal in
+    let able = some-able script.setup x going in
+    let word = has-word script.setup x able.thread able.able in
+    let within : able.thread < script.setup.threads = omega (arith, word.within, length-words script journal) in
+    record { thread = able.thread; event = word.event; within = within; is = sym (word-of script journal able.thread within) ∙ word.word }
+
+-- ---- one front after another
+
+-- the choice after a front in order isn't forced
+pub free-after : (script : Script) (journal : List Entry) → IsDrawable script → IsLegal script journal → AtEach (GoesOnAfter script) journal
+    → IsInOrder script.setup journal → HasSaid (said script journal) script.setup.threads → IsFreeChoice script.setup (position_of script journal)
+unfolding position_of
+free-after script journal is legal fronts order going =
+    let x : Position = position_of script journal in
+    free-choice script.setup x
+    (has-narrow script journal is.tame is.selected is.all legal order going)
+    (other-answers script.setup x is.never (no-deadlock script journal legal fronts) (said-able script journal is.tame legal going))
+
+-- a front in order, of which no entry is forced
+record IsFreeFront (script : Script) (journal : List Entry) (k : ℕ) : Type 0 where
+  order : IsInOrder script.setup (take k journal)
+  plain : (j : ℕ) (entry : Entry) → j < k → slice_get journal j ≡ Some entry → entry.forced ≡ false
+
+front-next : (script : Script) (journal : List Entry) (k : ℕ) → IsDrawable script → IsLegal script journal → AtEach (GoesOnAfter script) journal
+    → k < length journal → IsFreeFront script journal k → IsFreeFront script journal (suc k)
+unfolding position_of
+front-next script journal k is legal fronts lt before =
+    let setup : Setup = script.setup in
+    let front : List Entry = take k journal in
+    let x : Position = position_of script front in
+    let next : IsNext journal k = next-at journal k lt in
+    let entry : Entry = next.item in
+    let goes = fronts k entry next.there in
+    let going = able-said script front (verdict-none setup x goes.going).3 in
+    let free : IsFreeChoice setup x = free-after script front is (legal-front script journal k legal) (each-front (GoesOnAfter script) journal k fronts) before.order going in
+    let chosen = sym (choice-is setup x is.rule) ∙ goes.chosen in
+    let grant = grant-parts entry.thread free.thread entry.forced false (sym chosen ∙ free.chosen) in
+    let able = unforced-able setup x entry.thread is.other (chosen ∙ ap (Grant entry.thread) grant.1) in
+    let within : entry.thread < setup.threads = omega (arith, (has-word setup x entry.thread able).within, length-words script front) in
+    let word : get_or x.words entry.thread None ≡ Some entry.event = word-of script front entry.thread within ∙ (legal k entry next.there).announced in
+    let one : k + 1 ≡ suc k = omega arith in
+    record {
+      order = subst (IsInOrder setup) (sym next.cut ∙ ap (λ n. take n journal) one) (in-order-more setup x entry is.selected is.other before.order grant.1 chosen word);
+      plain = λ j other below at. elim (cases_lt j k) [
+        | inl early ↦ before.plain j other early at
+        | inr late ↦
+            let here : j ≡ k = omega (arith, below, late) in
+            let same : entry ≡ other = same_Some entry other (sym next.there ∙ ap (slice_get journal) (sym here) ∙ at) in
+            sym (ap (λ (e : Entry). e.forced) same) ∙ grant.1
+      ];
+    }
+
+front-at : (script : Script) (journal : List Entry) (k : ℕ) → IsDrawable script → IsLegal script journal → AtEach (GoesOnAfter script) journal
+    → k ≤ length journal → IsFreeFront script journal k
+front-at script journal zero is legal fronts within =
+    record { order = in-order-none script.setup is.selected.none; plain = λ j entry lt at. absurd (omega (arith, lt)) }
+front-at script journal (suc k) is legal fronts within =
+    front-next script journal k is legal fronts (omega (arith, within)) (front-at script journal k is legal fronts (omega (arith, within)))
+
+-- ---- the verdict
+
+none-first : (verdict : Option Verdict) (rest : List (Option Verdict)) → verdict ≡ None → first_of (verdict ∷ rest) ≡ first_of rest
+none-first verdict rest none = ap (λ v. first_of (v ∷ rest)) none
+
+none-wrong : (script : Script) (journal : List Entry) → script.setup.rule ≡ Surw → IsTame script → IsLegal script journal
+    → wrong_count script.setup (position_of script journal) ≡ None
+none-wrong script journal rule tame legal =
+    let setup : Setup = script.setup in
+    let x : Position = position_of script journal in
+    wrong-is setup x rule
+    ∙ ap (λ found. option_map (λ thread. WrongCount (length x.journal) thread (get_or setup.counts thread 0) (events_made setup.selection x.journal thread)) found)
+    (none-miscounted script journal tame legal)
+
+-- where each thread has ended
+pub verdict-ended : (script : Script) (journal : List Entry) → script.setup.rule ≡ Surw → IsTame script → IsLegal script journal → HasEnded script journal
+    → verdict_at script.setup (position_of script journal) ≡ Some Ended
+unfolding verdict_at
+verdict-ended script journal rule tame legal none =
+    let setup : Setup = script.setup in
+    let x : Position = position_of script journal in
+    let later : List (Option Verdict) = step_limit setup x ∷ deadlock setup x ∷ refused (length x.journal) (choice setup x) ∷ [] in
+    let words : list_any is_some x.words ≡ false =
+    list_any_none is_some x.words (All-from_get_or (λ word. is_some word ≡ false) x.words None (λ k lt.
+    let below : k < setup.threads = omega (arith, lt, length-words script journal) in
+    ap is_some (word-of script journal k below ∙ none k below))) in
+    none-first (wrong_count setup x) (ended x ∷ later) (none-wrong script journal rule tame legal)
+    ∙ ap (λ v. first_of (v ∷ later)) (cond-false (list_any is_some x.words) None (Some Ended) words)
+
+-- where one announces an event
+pub verdict-going : (script : Script) (journal : List Entry) → script.setup.rule ≡ Surw → IsTame script → IsLegal script journal
+    → HasSaid (said script journal) script.setup.threads → IsFreeChoice script.setup (position_of script journal)
+    → verdict_at script.setup (position_of script journal) ≡ None
+unfolding position_of
+verdict-going script journal rule tame legal going free =
+    let setup : Setup = script.setup in
+    let x : Position = position_of script journal in
+    let entry : Entry = step_of script journal going.thread going.event in
+    let shorter : length journal ≢ setup.max_steps = λ full.
+    omega (arith, full, length_push journal entry, tame.short (journal ++ entry ∷ []) (step-legal script journal going.thread going.event tame.free legal going.within going.is)) in
+    let word : list_any is_some x.words ≡ true =
+    list_any_at is_some x.words going.thread None (omega (arith, going.within, length-words script journal))
+    (ap is_some (word-of script journal going.thread going.within ∙ going.is)) in
+    none-verdict setup x (none-wrong script journal rule tame legal)
+    (cond-true (list_any is_some x.words) None (Some Ended) word)
+    (cond-false (length journal == setup.max_steps) (Some (StepLimit (length journal))) None (ne_eqb (length journal) setup.max_steps shorter))
+    (said-able script journal tame legal going)
+    (ap (refused (length journal)) (choice-is setup x rule ∙ free.chosen))
+
+pub ends-unforced : EndsUnforced
+ends-unforced script journal rule tame selected other all never run =
+    let is : IsDrawable script = record { rule = rule; tame = tame; selected = selected; other = other; all = all; never = never } in
+    let legal : IsLegal script journal = run.legal in
+    let fronts : AtEach (GoesOnAfter script) journal = going-fronts script journal legal run.going in
+    let front : IsFreeFront script journal (length journal) = front-at script journal (length journal) is legal fronts (omega arith) in
+    let order : IsInOrder script.setup journal = subst (IsInOrder script.setup) (take-length journal) front.order in (
+      elim (some-said (said script journal) script.setup.threads) [
+        | inl none ↦ verdict-ended script journal rule tame legal none
+        | inr going ↦
+            let none = verdict-going script journal rule tame legal going (free-after script journal is legal fronts order going) in
+            absurd (false≢true (sym (ap is_some none) ∙ run.stops))
+      ],
+      λ k entry at. front.plain k entry (slice_get_within journal k entry at) at,
+    )

@@ -1,0 +1,16 @@
+pub mod CandidatesAsked
+pub mod Cases
+pub mod Completions
+pub mod Ends
+pub mod EndsInOrder
+pub mod EndsUnforced
+pub mod EveryOrder
+pub mod Goes
+pub mod Grants
+pub mod InOrder
+pub mod KeepsOrder
+pub mod OneLoad
+pub mod RunExists
+pub mod SameChoice
+pub mod SurwIsUrw
+pub mod Unforced

@@ -1,0 +1,170 @@
+-- The run under SURW is the run under URW, where every event is selected and nothing blocks.
+use Rattle.std.proofs.Common.{◌≡◌, ℕ, zero, suc, ◌+◌, ◌<◌, ◌≤◌, Bool, false, List, [], ◌∷◌, length, take, get_or, Option, None, Some, IsSome, Result, Ok, Err, refl, ap, sym, subst, ◌∙◌, arith}
+use Rattle.std.proofs.Math.Seq.{take-length}
+use Rattle.std.proofs.lemmas.Option.{slice_get_within}
+use Rattle.seed_draws.specs.declared.draw_fault.DrawFault.{DrawFault}
+use Rattle.walk_rules.specs.declared.picked.Picked.TheVariants.{Grant}
+use Rattle.walk_rules.specs.declared.rule.Rule.{Rule}
+use Rattle.walk_rules.specs.declared.rule.Rule.TheVariants.{Surw, Urw}
+use Rattle.walk_rules.specs.Granted.{granted_at}
+use Rattle.run_rules.specs.declared.entry.Entry.{Entry}
+use Rattle.run_rules.specs.declared.verdict.Verdict.{Verdict}
+use Rattle.run_rules.specs.declared.verdict.Verdict.TheVariants.{WrongCount}
+use Rattle.run_rules.specs.Legal.{IsLegal}
+use Rattle.run_rules.specs.Made.{events_made}
+use Rattle.run_rules.specs.Position.{Position, position_of, seen_at}
+use Rattle.run_rules.specs.Setup.{Setup, Script}
+use Rattle.run_rules.specs.Asked.{answers_at}
+use Rattle.run_rules.specs.Left.{left_at}
+use Rattle.run_rules.specs.UrwChoice.{urw_bounds_at, urw_choice}
+use Rattle.walk_rules.specs.Urw.{urw_thread}
+use Rattle.std.specs.Option.{option_map}
+use Rattle.run_rules.specs.Verdict.{first_miscounted, wrong_count, ended, step_limit, deadlock, refused, first_of, verdict_at}
+use Rattle.run_rules.proofs.Choices.{none-mapped}
+use Rattle.run_rules.proofs.Fronts.{AtEach, IsNext, next-at, each-front}
+use Rattle.run_rules.proofs.Goings.{GoesOnAfter, fronts-going, going-fronts}
+use Rattle.run_rules.proofs.Scripts.{legal-front}
+use Rattle.run_rules.proofs.Verdicts.{grant-parts, verdict-none}
+use Rattle.run_rules.specs.SurwChoice.{surw_choice}
+use Rattle.selected_order.specs.SurwIsUrw.{SurwIsUrw, setup_under, under}
+use Rattle.seed_draws.specs.Answers.{IsSource, NeverRefuses}
+use Rattle.selected_order.proofs.Ends.{wrong-is}
+use Rattle.selected_order.proofs.EndsInOrder.{choice-is}
+use Rattle.selected_order.proofs.Goes.{no-deadlock}
+use Rattle.selected_order.proofs.SameChoice.{IsEvery, IsStepwise, stepwise-none, stepwise-more, choice-same}
+use Rattle.selected_order.proofs.Unforced.{other-answers}
+
+-- what is asked of a script and its sources
+record IsSame (script : Script) : Type 0 where
+  rule : script.setup.rule ≡ Surw
+  every : IsEvery script
+  selected : IsSource script.setup.selected.answers
+  other : IsSource script.setup.other.answers
+  never : NeverRefuses script.setup.other.answers
+
+-- a grant of URW isn't forced
+granted-free : (thread_of : ℕ → ℕ) (answer : Result (List ℕ) DrawFault) (thread : ℕ) (forced : Bool) → granted_at thread_of answer ≡ Grant thread forced → forced ≡ false
+granted-free thread_of (Ok draws) thread forced granted = sym (grant-parts (thread_of (get_or draws 0 0)) thread false forced granted).1
+granted-free thread_of (Err fault) thread forced granted = absurd cc
+
+urw-free : (setup : Setup) (x : Position) (thread : ℕ) (forced : Bool) → urw_choice setup x ≡ Grant thread forced → forced ≡ false
+unfolding urw_choice
+urw-free setup x thread forced granted =
+    granted-free (urw_thread (left_at setup x) (seen_at setup x)) (answers_at setup.selected.answers (urw_bounds_at setup) x) thread forced granted
+
+-- ---- the verdict
+
+last-same : (a b c d e f : Option Verdict) → (a ≡ None → b ≡ None → c ≡ None → d ≡ None → e ≡ f)
+    → first_of (a ∷ b ∷ c ∷ d ∷ e ∷ []) ≡ first_of (a ∷ b ∷ c ∷ d ∷ f ∷ [])
+last-same (Some v) b c d e f same = refl
+last-same None (Some v) c d e f same = refl
+last-same None None (Some v) d e f same = refl
+last-same None None None (Some v) e f same = refl
+last-same None None None None e f same = ap (λ v. first_of (v ∷ [])) (same refl refl refl refl)
+
+none-counted : (setup : Setup) (x : Position) → setup.rule ≡ Surw → wrong_count setup x ≡ None → first_miscounted setup x ≡ None
+none-counted setup x rule none =
+    none-mapped (λ thread. WrongCount (length x.journal) thread (get_or setup.counts thread 0) (events_made setup.selection x.journal thread))
+    (first_miscounted setup x) (sym (wrong-is setup x rule) ∙ none)
+
+-- URW's choice doesn't look at the rule
+urw-under : (setup : Setup) (x : Position) → urw_choice (setup_under Urw setup) x ≡ urw_choice setup x
+unfolding urw_choice seen_at
+urw-under setup x = refl
+
+verdict-same : (setup : Setup) (x : Position) → setup.rule ≡ Surw
+    → (first_miscounted setup x ≡ None → deadlock setup x ≡ None → surw_choice setup x ≡ urw_choice setup x) → verdict_at setup x ≡ verdict_at (setup_under Urw setup) x
+unfolding verdict_at seen_at urw_choice
+verdict-same setup x rule same =
+    let n : ℕ = length x.journal in
+    let wrong : Option Verdict =
+    option_map (λ thread. WrongCount n thread (get_or setup.counts thread 0) (events_made setup.selection x.journal thread)) (first_miscounted setup x) in
+    (λ i. first_of (wrong-is setup x rule i ∷ ended x ∷ step_limit setup x ∷ deadlock setup x ∷ refused n (choice-is setup x rule i) ∷ []))
+    ∙ last-same wrong (ended x) (step_limit setup x) (deadlock setup x) (refused n (surw_choice setup x)) (refused n (urw_choice setup x))
+    (λ counted more short able. ap (refused n) (same (none-counted setup x rule (wrong-is setup x rule ∙ counted)) able))
+
+-- ---- one front after another
+
+same-at : (script : Script) (journal : List Entry) → IsSame script → IsLegal script journal → AtEach (GoesOnAfter script) journal → IsStepwise script journal
+    → first_miscounted script.setup (position_of script journal) ≡ None → deadlock script.setup (position_of script journal) ≡ None
+    → surw_choice script.setup (position_of script journal) ≡ urw_choice script.setup (position_of script journal)
+unfolding position_of
+same-at script journal is legal fronts step counted going =
+    choice-same script journal is.every legal step counted going is.selected is.other
+    (other-answers script.setup (position_of script journal) is.never (no-deadlock script journal legal fronts) going)
+
+step-next : (script : Script) (journal : List Entry) (k : ℕ) → IsSame script → IsLegal script journal → AtEach (GoesOnAfter script) journal
+    → k < length journal → IsStepwise script (take k journal) → IsStepwise script (take (suc k) journal)
+step-next script journal k is legal fronts lt step =
+    let setup : Setup = script.setup in
+    let front : List Entry = take k journal in
+    let x : Position = position_of script front in
+    let next : IsNext journal k = next-at journal k lt in
+    let entry : Entry = next.item in
+    let goes = fronts k entry next.there in
+    let parts = verdict-none setup x goes.going in
+    let counted = none-counted setup x is.rule parts.0 in
+    let before : IsLegal script front = legal-front script journal k legal in
+    let same = same-at script front is before (each-front (GoesOnAfter script) journal k fronts) step counted parts.3 in
+    let free = urw-free setup x entry.thread entry.forced (sym same ∙ sym (choice-is setup x is.rule) ∙ goes.chosen) in
+    let one : k + 1 ≡ suc k = omega arith in
+    subst (IsStepwise script) (sym next.cut ∙ ap (λ n. take n journal) one)
+    (stepwise-more script front entry is.every before counted (legal k entry next.there).announced free step)
+
+step-at : (script : Script) (journal : List Entry) (k : ℕ) → IsSame script → IsLegal script journal → AtEach (GoesOnAfter script) journal
+    → k ≤ length journal → IsStepwise script (take k journal)
+step-at script journal zero is legal fronts within = stepwise-none script
+step-at script journal (suc k) is legal fronts within =
+    step-next script journal k is legal fronts (omega (arith, within)) (step-at script journal k is legal fronts (omega (arith, within)))
+
+-- the rule is no part of what is legal
+pub legal-under : (script : Script) (rule other : Rule) (journal : List Entry) → IsLegal (under rule script) journal → IsLegal (under other script) journal
+legal-under script rule other journal legal k entry at =
+    let next = legal k entry at in
+    record { announced = next.announced; enabled = next.enabled; replied = next.replied }
+
+legal-again : (script : Script) (rule : Rule) (journal : List Entry) → IsLegal (under rule script) journal → IsLegal script journal
+legal-again script rule journal legal k entry at =
+    let next = legal k entry at in
+    record { announced = next.announced; enabled = next.enabled; replied = next.replied }
+
+-- after each front the run under URW goes on with the same entry
+urw-fronts : (script : Script) (journal : List Entry) → IsSame script → IsLegal script journal → AtEach (GoesOnAfter script) journal
+    → AtEach (GoesOnAfter (under Urw script)) journal
+unfolding position_of
+urw-fronts script journal is legal fronts k entry at =
+    let setup : Setup = script.setup in
+    let front : List Entry = take k journal in
+    let x : Position = position_of script front in
+    let goes = fronts k entry at in
+    let parts = verdict-none setup x goes.going in
+    let step : IsStepwise script front = step-at script journal k is legal fronts (omega (arith, slice_get_within journal k entry at)) in
+    let same = same-at script front is (legal-front script journal k legal) (each-front (GoesOnAfter script) journal k fronts) step in
+    record {
+      going = sym (verdict-same setup x is.rule same) ∙ goes.going;
+      chosen = urw-under setup x ∙ sym (same (none-counted setup x is.rule parts.0) parts.3) ∙ sym (choice-is setup x is.rule) ∙ goes.chosen;
+    }
+
+pub surw-is-urw : SurwIsUrw
+unfolding position_of
+surw-is-urw plain counted selected other never journal every free run =
+    let script : Script = under Surw plain in
+    let is : IsSame script = record {
+      rule = refl;
+      every = record { counted = counted; every = every; free = λ journal legal. free journal (legal-again plain Surw journal legal) };
+      selected = selected;
+      other = other;
+      never = never;
+    } in
+    let legal : IsLegal script journal = run.legal in
+    let fronts : AtEach (GoesOnAfter script) journal = going-fronts script journal legal run.going in
+    let step : IsStepwise script journal = subst (IsStepwise script) (take-length journal) (step-at script journal (length journal) is legal fronts (omega arith)) in
+    let same = verdict-same script.setup (position_of script journal) refl (same-at script journal is legal fronts step) in
+    let again : IsLegal (under Urw plain) journal = legal-under plain Surw Urw journal legal in (
+      record {
+        legal = again;
+        going = fronts-going (under Urw plain) journal again (urw-fronts script journal is legal fronts);
+        stops = subst (λ (v : Option Verdict). IsSome v) same run.stops;
+      },
+      same,
+    )

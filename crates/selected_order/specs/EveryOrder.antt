@@ -1,0 +1,35 @@
+-- Every order is the selected order of those draw lists that name it, whatever the other draws are.
+use Rattle.std.specs.Prelude.{◌≡◌, ℕ, List, count_by}
+use Rattle.std.specs.Str.{bytes_eq}
+use Rattle.draw_split.specs.AllDraws.{all_draws, factorials}
+use Rattle.draw_split.specs.DrawList.{IsDrawList}
+use Rattle.draw_split.specs.Named.{named_order}
+use Rattle.draw_split.specs.Rooms.{Fits}
+use Rattle.seed_draws.specs.TapeSource.{loose_tape, strict_tape}
+use Rattle.walk_rules.specs.declared.rule.Rule.TheVariants.{Surw}
+use Rattle.run_rules.specs.declared.entry.Entry.{Entry}
+use Rattle.run_rules.specs.Made.{selected_order}
+use Rattle.run_rules.specs.Run.{IsRunJournal}
+use Rattle.run_rules.specs.Setup.{Script}
+use Rattle.selected_order.specs.SurwScript.{IsTame}
+
+-- a script with these tapes for its sources
+abbrev pub with_tapes : Script → List ℕ → List ℕ → Script
+with_tapes script draws others =
+    record script { setup = record script.setup { selected = strict_tape draws; other = loose_tape others } }
+
+-- whatever the other tape, there is a run on each draw list, and it has the order that the draws name: so the draw lists whose runs
+-- have an order are exactly those that name it
+abbrev pub EveryOrderOf : Script → Type 0
+EveryOrderOf script = script.setup.rule ≡ Surw → IsTame script → (others draws : List ℕ) → IsDrawList script.setup.counts draws
+    → ((journal : List Entry) × IsRunJournal (with_tapes script draws others) journal)
+    × ((journal : List Entry) → IsRunJournal (with_tapes script draws others) journal
+    → selected_order script.setup.selection journal ≡ named_order script.setup.counts draws)
+
+-- and so, with one other tape, each order that fits the counts comes on equally many draw lists
+abbrev pub OrdersComeEquallyOftenOf : Script → Type 0
+OrdersComeEquallyOftenOf script = script.setup.rule ≡ Surw → IsTame script → (others : List ℕ) (journal_of : List ℕ → List Entry)
+    → ((draws : List ℕ) → IsDrawList script.setup.counts draws → IsRunJournal (with_tapes script draws others) (journal_of draws))
+    → (order : List ℕ) → Fits script.setup.counts order
+    → count_by (λ draws. bytes_eq (selected_order script.setup.selection (journal_of draws)) order) (all_draws script.setup.counts)
+    ≡ factorials script.setup.counts

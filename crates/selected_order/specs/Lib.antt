@@ -1,0 +1,5 @@
+pub mod EveryOrder
+pub mod KeepsOrder
+pub mod SelectedOrder
+pub mod SurwIsUrw
+pub mod SurwScript

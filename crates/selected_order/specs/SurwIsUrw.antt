@@ -1,0 +1,29 @@
+-- Where every event is selected and nothing blocks, the run under SURW is the run under URW with the same selected draws.
+use Rattle.std.specs.Prelude.{◌≡◌, List, [], ◌∷◌, length}
+use Rattle.event_class.specs.declared.pickable.Pickable.TheVariants.{Every}
+use Rattle.seed_draws.specs.Answers.{IsSource, NeverRefuses}
+use Rattle.walk_rules.specs.declared.rule.Rule.{Rule}
+use Rattle.walk_rules.specs.declared.rule.Rule.TheVariants.{Surw, Urw}
+use Rattle.run_rules.specs.declared.entry.Entry.{Entry}
+use Rattle.run_rules.specs.Position.{position_of}
+use Rattle.run_rules.specs.Run.{IsRunJournal}
+use Rattle.run_rules.specs.Setup.{Setup, Script}
+use Rattle.run_rules.specs.Verdict.{verdict_at}
+use Rattle.selected_order.specs.SurwScript.{IsNeverBlocked}
+
+-- a setup and a script with this rule
+abbrev pub setup_under : Rule → Setup → Setup
+setup_under rule setup = record setup { rule = rule }
+
+abbrev pub under : Rule → Script → Script
+under rule script = record script { setup = setup_under rule script.setup }
+
+-- the other source has to answer, since URW doesn't ask it
+abbrev pub SurwIsUrwOf : Script → Type 0
+SurwIsUrwOf script = (journal : List Entry) → script.setup.selection ≡ Every ∷ [] → IsNeverBlocked script → IsRunJournal (under Surw script) journal
+    → IsRunJournal (under Urw script) journal
+    × (verdict_at (setup_under Surw script.setup) (position_of script journal) ≡ verdict_at (setup_under Urw script.setup) (position_of script journal))
+
+abbrev pub SurwIsUrw : Type 0
+SurwIsUrw = (script : Script) → length script.setup.counts ≡ script.setup.threads
+    → IsSource script.setup.selected.answers → IsSource script.setup.other.answers → NeverRefuses script.setup.other.answers → SurwIsUrwOf script
