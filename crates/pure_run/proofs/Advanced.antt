@@ -7,23 +7,28 @@ use Rattle.event_class.specs.declared.event.Class.{Class}
 use Rattle.event_class.specs.declared.event.Event.{Event}
 use Rattle.event_class.specs.Event.{class}
 use Rattle.event_class.specs.Selection.{has}
-use Rattle.seed_draws.specs.Answers.{answers}
-use Rattle.seed_draws.specs.declared.draw_fault.DrawFault.{DrawFault}
+use Rattle.seed_draws.specs.Answers.{IsSource, answers}
+use Rattle.seed_draws.specs.declared.draws.Draws.{Ghosts}
 use Rattle.test_world.specs.Monitor.{CanWatch}
 use Rattle.test_world.specs.World.{WorldState, after, new_world, reply}
 use Rattle.walk_rules.specs.declared.seen.Seen.{Seen}
 use Rattle.walk_rules.specs.declared.seen.Seen.TheVariants.{Over}
-use Rattle.walk_rules.specs.Walk.{WalkState, after_done, counts_down}
+use Rattle.walk_rules.specs.State.{WalkState}
+use Rattle.walk_rules.specs.Strategies.{counts_down}
+use Rattle.walk_rules.specs.Walk.{after_done, after_picked}
 use Rattle.run_rules.specs.declared.entry.Entry.{Entry}
+use Rattle.run_rules.specs.Choice.{pick_at, walk_at}
+use Rattle.run_rules.specs.Left.{left_by}
 use Rattle.run_rules.specs.Position.{seen_at, seen_word, world_at}
 use Rattle.run_rules.specs.Setup.{Setup}
+use Rattle.run_rules.proofs.StrategiesFollow.{follows}
 use Rattle.run_rules.proofs.Verdicts.{verdict-none}
 use Rattle.pure_run.specs.declared.next.Next.{Next}
 use Rattle.pure_run.specs.declared.next.Next.TheVariants as next
 use Rattle.pure_run.specs.declared.word.Word.{Word}
 use Rattle.pure_run.specs.declared.word.Word.TheVariants.{Due, Said}
 use Rattle.pure_run.specs.Core.{IsGrantedStep, last_word, position_in}
-use Rattle.pure_run.specs.Kept.{IsKept, IsRunning, left_by}
+use Rattle.pure_run.specs.Kept.{IsKept, IsRunning}
 use Rattle.pure_run.specs.Opened.{OpenedWith}
 use Rattle.pure_run.specs.Watched.{failed_then}
 use Rattle.pure_run.proofs.Granting.{left-some, room}
@@ -42,14 +47,15 @@ class-cases Class.Disk = inr (λ e. cc)
 class-cases Class.Log = inr (λ e. cc)
 class-cases Class.Check = inr (λ e. cc)
 
-module _ {S O : Type 0} (answer_s : S → ℕ → Result ℕ DrawFault) (after_s : S → ℕ → S) (answer_o : O → ℕ → Result ℕ DrawFault) (after_o : O → ℕ → O)
+module _ {S O : Type 0} (draws_s : Ghosts S) (draws_o : Ghosts O)
     (setup : Setup) (opened : OpenedWith S O)
-    (from_s : (bounds : List ℕ) → setup.selected.answers bounds ≡ answers answer_s after_s opened.selected bounds)
-    (from_o : (bounds : List ℕ) → setup.other.answers bounds ≡ answers answer_o after_o opened.other bounds)
+    (from_s : (bounds : List ℕ) → setup.selected.answers bounds ≡ answers draws_s opened.selected bounds)
+    (from_o : (bounds : List ℕ) → setup.other.answers bounds ≡ answers draws_o opened.other bounds)
+    (source_s : IsSource setup.selected.answers) (source_o : IsSource setup.other.answers)
     (journal : List Entry) (words : List Word)
     (world : WorldState) (due : ℕ) (view : List Seen) (walk : WalkState) (selected : S) (other : O) (failed : List (Option ℕ)) (n : Next)
     (kept : IsKept setup journal words)
-    (running : IsRunning after_s after_o setup opened journal words world due view walk selected other failed n)
+    (running : IsRunning draws_s draws_o setup opened journal words world due view walk selected other failed n)
     (thread : ℕ) (event : Event) (forced : Bool)
     (step : IsGrantedStep setup (record { opened = opened; journal = journal; words = words }) thread event forced)
     (next_is : n ≡ next.Granted (record { thread = thread; forced = forced })) where
@@ -59,12 +65,25 @@ module _ {S O : Type 0} (answer_s : S → ℕ → Result ℕ DrawFault) (after_s
   event-last : get_or (map last_word words) thread None ≡ Some event
   event-last = get_or-map last_word words thread Due None thread-inside ∙ ap last_word (get_or_from_slice_get words thread (Said (Some event)) Due step.word)
 
+  moved : IsRunning draws_s draws_o setup opened journal words world due view walk selected other failed (next.Granted (record { thread = thread; forced = forced }))
+  moved = subst (λ m. IsRunning draws_s draws_o setup opened journal words world due view walk selected other failed m) next_is running
+
+  -- the walk waits for the step
+  walk-waits : walk ≡ record (walk_at setup (position_in journal words)) { memory = (pick_at setup (position_in journal words)).memory; waiting = Some (record { thread = thread; forced = forced }) }
+  walk-waits =
+      moved.walk
+      ∙ ap (λ p. after_picked (walk_at setup (position_in journal words)) (pick_at setup (position_in journal words)).memory p)
+      ((follows setup.rule).picks setup (position_in journal words) moved.answered ∙ step.chosen)
+
+  pub waits-there : walk.waiting ≡ Some (record { thread = thread; forced = forced })
+  waits-there = ap (λ (w : WalkState). w.waiting) walk-waits
+
   pub left-there : IsTrue (counts_down walk.rule) → IsTrue (has setup.selection event) → 0 < get_or walk.left thread 0
   left-there counts selects =
-      let rule : walk.rule ≡ setup.rule = ap (λ (w : WalkState). w.rule) running.walk in
-      let left : walk.left ≡ left_by setup.rule setup (position_in journal words) = ap (λ (w : WalkState). w.left) running.walk in
+      let rule : walk.rule ≡ setup.rule = ap (λ (w : WalkState). w.rule) walk-waits in
+      let left : walk.left ≡ left_by (counts_down setup.rule) setup (position_in journal words) = ap (λ (w : WalkState). w.left) walk-waits in
       subst (λ xs. 0 < get_or xs thread 0) (sym left)
-      (left-some setup.rule setup (position_in journal words) thread event ((verdict-none setup (position_in journal words) step.going).0)
+      (left-some setup (position_in journal words) thread event ((verdict-none setup (position_in journal words) step.going).0)
       (omega (arith, thread-inside, length-map words last_word)) event-last (sym (ap counts_down rule) ∙ counts) selects)
 
   pub room-there : length journal + 1 ≤ setup.max_steps
@@ -106,26 +125,25 @@ module _ {S O : Type 0} (answer_s : S → ℕ → Result ℕ DrawFault) (after_s
       → journal-then ≡ journal ++ entry-of replied ∷ [] → words-then ≡ set words thread Due → world-then ≡ after world thread event
       → (class event ≡ Class.Lock → view-then ≡ map (seen_word (after world thread event) setup.selection) (map last_word (set words thread Due)))
       → (class event ≢ Class.Lock → view-then ≡ set view thread Over)
-      → walk-then ≡ after_done walk thread (has setup.selection event)
+      → walk-then ≡ after_done walk thread (has setup.selection event) forced
       → failed-then ≡ failed_then (after world thread event) (length journal + 1) failed setup.monitors
       → IsKept setup journal-then words-then
-      × IsRunning after_s after_o setup opened journal-then words-then world-then 1 view-then walk-then selected other failed-then next.Due
+      × IsRunning draws_s draws_o setup opened journal-then words-then world-then 1 view-then walk-then selected other failed-then next.Due
   core-performed replied journal-then words-then world-then view-then walk-then failed-then replied_is journal_is words_is world_is lock otherwise walk_is failed_is =
       let entry : Entry = entry-of replied in
       let longer : List Entry = journal ++ entry ∷ [] in
       let now : List Word = set words thread Due in
       let there = replied_is ∙ ap (λ w. reply w thread event) running.world in
-      let moved = subst (λ m. IsRunning after_s after_o setup opened journal words world due view walk selected other failed m) next_is running in
-      let ready = ready-performed after_s after_o setup opened journal words entry world due view walk selected other failed kept step.word step.said step.going step.chosen step.enabled there moved
+      let ready = ready-performed draws_s draws_o setup opened source_s source_o journal words entry world due view walk selected other failed kept step.word step.said step.going step.chosen step.enabled there moved
       view-then (seen-now view-then lock otherwise) in
       let kept-then = kept-performed setup journal words entry kept step.word step.said step.going step.chosen step.enabled there in
-      subst (λ j. IsKept setup j words-then × IsRunning after_s after_o setup opened j words-then world-then 1 view-then walk-then selected other failed-then next.Due) (sym journal_is)
-      (subst (λ ws. IsKept setup longer ws × IsRunning after_s after_o setup opened longer ws world-then 1 view-then walk-then selected other failed-then next.Due) (sym words_is)
-      (subst (λ w. IsKept setup longer now × IsRunning after_s after_o setup opened longer now w 1 view-then walk-then selected other failed-then next.Due) (sym world_is)
-      (subst (λ w. IsKept setup longer now × IsRunning after_s after_o setup opened longer now (after world thread event) 1 view-then w selected other failed-then next.Due) (sym walk_is)
-      (subst (λ f. IsKept setup longer now × IsRunning after_s after_o setup opened longer now (after world thread event) 1 view-then (after_done walk thread (has setup.selection event)) selected other f next.Due) (sym failed_is) (
+      subst (λ j. IsKept setup j words-then × IsRunning draws_s draws_o setup opened j words-then world-then 1 view-then walk-then selected other failed-then next.Due) (sym journal_is)
+      (subst (λ ws. IsKept setup longer ws × IsRunning draws_s draws_o setup opened longer ws world-then 1 view-then walk-then selected other failed-then next.Due) (sym words_is)
+      (subst (λ w. IsKept setup longer now × IsRunning draws_s draws_o setup opened longer now w 1 view-then walk-then selected other failed-then next.Due) (sym world_is)
+      (subst (λ w. IsKept setup longer now × IsRunning draws_s draws_o setup opened longer now (after world thread event) 1 view-then w selected other failed-then next.Due) (sym walk_is)
+      (subst (λ f. IsKept setup longer now × IsRunning draws_s draws_o setup opened longer now (after world thread event) 1 view-then (after_done walk thread (has setup.selection event) forced) selected other f next.Due) (sym failed_is) (
         kept-then,
-        running-due answer_s after_s answer_o after_o setup opened from_s from_o longer now (after world thread event) 1 view-then
-            (after_done walk thread (has setup.selection event)) selected other (failed_then (after world thread event) (length journal + 1) failed setup.monitors)
+        running-due draws_s draws_o setup opened from_s from_o longer now (after world thread event) 1 view-then
+            (after_done walk thread (has setup.selection event) forced) selected other (failed_then (after world thread event) (length journal + 1) failed setup.monitors)
             ready (any-due now thread due-now),
       )))))

@@ -1,64 +1,35 @@
--- The answer to the bound at a position, after those at the positions before it.
-use Rattle.std.proofs.Common.{◌≡◌, ℕ, Result, Ok, Err, IsOk, List, [], ◌∷◌, ◌++◌, length, map, refl, ap, sym, subst, ◌∙◌}
-use Rattle.std.proofs.Math.Seq.{get_or-append_seam}
-use Rattle.std.proofs.lemmas.Bool.{false≢true}
-use Rattle.std.proofs.lemmas.List.{length-map, map-append}
-use Rattle.seed_draws.proofs.Asked.{after_bounds-append, answers-length, answers-more_err, answers-more_ok}
-use Rattle.seed_draws.specs.Answers.{after_bounds, answers}
-use Rattle.seed_draws.specs.declared.draw_fault.DrawFault.{DrawFault}
-use Rattle.run_rules.specs.Answer.{answer_at}
+-- What a running source answers and what is left of it, by the bounds that were asked so far.
+use Rattle.std.proofs.Common.{◌≡◌, ℕ, Bool, true, false, cond, IsOk, List, [], ◌∷◌, ◌++◌, flat_map, ap, sym, subst, ◌∙◌}
+use Rattle.std.proofs.lemmas.List.{append-nil}
+use Rattle.seed_draws.proofs.Asked.{HasDraws, after_bounds-append, answers-after, has-draws}
+use Rattle.seed_draws.specs.Answers.{Answering, after_bounds, answers, answers_after}
+use Rattle.seed_draws.specs.declared.draws.Draws.{Ghosts}
+use Rattle.run_rules.specs.Asked.{asked_over}
 use Rattle.run_rules.specs.Position.{Position}
+use Rattle.run_rules.proofs.Asking.{flat_map-more}
 
--- a result that is an answer, with it
-pub record HasDraws (r : Result (List ℕ) DrawFault) : Type 0 where
-  pub draws : List ℕ
-  pub is : r ≡ Ok draws
+bounds-more : (bounds_at : Position → List ℕ) (xs : List Position) (x : Position) (drawn : Bool)
+    → asked_over bounds_at xs ++ cond drawn (bounds_at x) [] ≡ asked_over bounds_at (xs ++ cond drawn (x ∷ []) [])
+bounds-more bounds_at xs x true = sym (flat_map-more bounds_at xs x)
+bounds-more bounds_at xs x false = append-nil (flat_map bounds_at xs) ∙ ap (λ ys. flat_map bounds_at ys) (sym (append-nil xs))
 
-pub has-draws : (r : Result (List ℕ) DrawFault) → IsOk r → HasDraws r
-has-draws (Ok draws) ok = record { draws = draws; is = refl }
-has-draws (Err fault) ok = absurd (false≢true ok)
+module _ {S : Type 0} (draws : Ghosts S) (source : S) (answering : Answering)
+    (from : (bounds : List ℕ) → answering bounds ≡ answers draws source bounds) where
+  had : (asked : List ℕ) → IsOk (answering asked) → HasDraws (answers draws source asked)
+  had asked ok = has-draws (answers draws source asked) (subst (λ r. IsOk r) (from asked) ok)
 
-last-of : {S : Type 0} (answer : S → ℕ → Result ℕ DrawFault) (after : S → ℕ → S) (source : S) (bounds draws : List ℕ) (bound k : ℕ)
-    → answers answer after source bounds ≡ Ok draws → length bounds ≡ k
-    → (r : Result ℕ DrawFault) → answer (after_bounds after source bounds) bound ≡ r
-    → answer_at (answers answer after source (bounds ++ bound ∷ [])) k ≡ r
-last-of answer after source bounds draws bound k is long (Ok draw) next =
-    let same : length draws ≡ k = answers-length answer after source bounds draws is ∙ long in
-    ap (λ r. answer_at r k) (answers-more_ok answer after source bounds draws bound draw is next)
-    ∙ ap (λ n. answer_at (Ok (draws ++ draw ∷ [])) n) (sym same)
-    ∙ ap Ok (get_or-append_seam draws draw [] 0)
-last-of answer after source bounds draws bound k is long (Err fault) next =
-    ap (λ r. answer_at r k) (answers-more_err answer after source bounds draws bound fault is next)
+  -- after some bounds that it answered, it answers as the source that it was does after them
+  pub rest-answers : (asked : List ℕ) → IsOk (answering asked) → answers draws (after_bounds draws source asked) ≡ answers_after answering asked
+  rest-answers asked ok =
+      let all = had asked ok in
+      (λ i bounds. answers-after draws source asked all.draws all.is bounds i)
+      ∙ (λ i. answers_after (λ bounds. sym (from bounds) i) asked)
 
--- the last answer is that of the source as the earlier bounds left it
-pub last-answer : {S : Type 0} (answer : S → ℕ → Result ℕ DrawFault) (after : S → ℕ → S) (source : S) (f : Position → ℕ) (xs : List Position) (x : Position) (k : ℕ)
-    → IsOk (answers answer after source (map f xs)) → length xs ≡ k
-    → answer_at (answers answer after source (map f (xs ++ x ∷ []))) k ≡ answer (after_bounds after source (map f xs)) (f x)
-last-answer answer after source f xs x k ok long =
-    let had = has-draws (answers answer after source (map f xs)) ok in
-    ap (λ bounds. answer_at (answers answer after source bounds) k) (map-append f xs (x ∷ []))
-    ∙ last-of answer after source (map f xs) had.draws (f x) k had.is (length-map xs f ∙ long) (answer (after_bounds after source (map f xs)) (f x)) refl
-
-more-answered : {S : Type 0} (answer : S → ℕ → Result ℕ DrawFault) (after : S → ℕ → S) (source : S) (bounds draws : List ℕ) (bound : ℕ)
-    → answers answer after source bounds ≡ Ok draws
-    → (r : Result ℕ DrawFault) → answer (after_bounds after source bounds) bound ≡ r → IsOk r
-    → IsOk (answers answer after source (bounds ++ bound ∷ []))
-more-answered answer after source bounds draws bound is (Ok draw) next ok =
-    subst (λ r. IsOk r) (sym (answers-more_ok answer after source bounds draws bound draw is next)) refl
-more-answered answer after source bounds draws bound is (Err fault) next ok = absurd (false≢true ok)
-
--- where the last answer isn't a refusal, all were answered
-pub still-answered : {S : Type 0} (answer : S → ℕ → Result ℕ DrawFault) (after : S → ℕ → S) (source : S) (f : Position → ℕ) (xs : List Position) (x : Position)
-    → IsOk (answers answer after source (map f xs)) → IsOk (answer (after_bounds after source (map f xs)) (f x))
-    → IsOk (answers answer after source (map f (xs ++ x ∷ [])))
-still-answered answer after source f xs x ok next =
-    let had = has-draws (answers answer after source (map f xs)) ok in
-    subst (λ bounds. IsOk (answers answer after source bounds)) (sym (map-append f xs (x ∷ [])))
-    (more-answered answer after source (map f xs) had.draws (f x) had.is (answer (after_bounds after source (map f xs)) (f x)) refl next)
-
--- the source after one bound more
-pub asked-more : {S : Type 0} (after : S → ℕ → S) (source : S) (f : Position → ℕ) (xs : List Position) (x : Position)
-    → after_bounds after source (map f (xs ++ x ∷ [])) ≡ after_bounds after (after_bounds after source (map f xs)) (f x ∷ [])
-asked-more after source f xs x =
-    ap (λ bounds. after_bounds after source bounds) (map-append f xs (x ∷ []))
-    ∙ after_bounds-append after source (map f xs) (f x ∷ [])
+  -- what is left after the bounds at one position more, or at no more
+  pub asked-more : (bounds_at : Position → List ℕ) (xs : List Position) (x : Position) (drawn : Bool) → IsOk (answering (asked_over bounds_at xs))
+      → after_bounds draws (after_bounds draws source (asked_over bounds_at xs)) (cond drawn (bounds_at x) [])
+      ≡ after_bounds draws source (asked_over bounds_at (xs ++ cond drawn (x ∷ []) []))
+  asked-more bounds_at xs x drawn ok =
+      let all = had (asked_over bounds_at xs) ok in
+      sym (after_bounds-append draws source (asked_over bounds_at xs) (cond drawn (bounds_at x) []) all.draws all.is)
+      ∙ ap (λ bounds. after_bounds draws source bounds) (bounds-more bounds_at xs x drawn)

@@ -4,6 +4,7 @@ use Rattle.std.specs.List.{list_any}
 use Rattle.event_class.specs.declared.event.Event.{Event}
 use Rattle.event_class.specs.declared.pickable.Pickable.{Pickable}
 use Rattle.seed_draws.specs.Answers.{after_bounds}
+use Rattle.seed_draws.specs.declared.draws.Draws.{Ghosts}
 use Rattle.test_world.specs.declared.monitor.Monitor.{Monitor}
 use Rattle.test_world.specs.declared.monitor.Monitor.TheVariants.{WriteAhead, LogWhole, Expect, CellEnd}
 use Rattle.test_world.specs.Monitor.{is_failing}
@@ -11,7 +12,7 @@ use Rattle.test_world.specs.World.{WorldState, max_word, new_world}
 use Rattle.walk_rules.specs.declared.picked.Picked.{Picked}
 use Rattle.walk_rules.specs.declared.picked.Picked.TheVariants as picked
 use Rattle.walk_rules.specs.declared.seen.Seen.{Seen}
-use Rattle.walk_rules.specs.Walk.{WalkState}
+use Rattle.walk_rules.specs.State.{WalkState}
 use Rattle.run_rules.specs.declared.entry.Entry.{Entry}
 use Rattle.run_rules.specs.declared.verdict.Verdict.{Verdict}
 use Rattle.run_rules.specs.Choice.{choice, other_asked, selected_asked}
@@ -70,12 +71,12 @@ drawn-stop : (setup : Setup) (x : Position) (verdict : Verdict) → verdict_at s
 unfolding drawn
 drawn-stop setup x verdict is = ap (λ found. earlier x ++ cond (is_drawn found) (x ∷ []) []) (sym is)
 
-module _ {S O : Type 0} (after_s : S → ℕ → S) (after_o : O → ℕ → O) (bent_s : S → ℕ) (bent_o : O → ℕ) (setup : Setup) (opened : OpenedWith S O)
-    (from_s : (bounds : List ℕ) → setup.selected.bent bounds ≡ bent_s (after_bounds after_s opened.selected bounds))
-    (from_o : (bounds : List ℕ) → setup.other.bent bounds ≡ bent_o (after_bounds after_o opened.other bounds))
+module _ {S O : Type 0} (draws_s : Ghosts S) (draws_o : Ghosts O) (bent_s : S → ℕ) (bent_o : O → ℕ) (setup : Setup) (opened : OpenedWith S O)
+    (from_s : (bounds : List ℕ) → setup.selected.bent bounds ≡ bent_s (after_bounds draws_s opened.selected bounds))
+    (from_o : (bounds : List ℕ) → setup.other.bent bounds ≡ bent_o (after_bounds draws_o opened.other bounds))
     (journal : List Entry) (words : List Word)
     (world : WorldState) (due : ℕ) (view : List Seen) (walk : WalkState) (selected : S) (other : O) (failed : List (Option ℕ)) (next : Next)
-    (running : IsRunning after_s after_o setup opened journal words world due view walk selected other failed next)
+    (running : IsRunning draws_s draws_o setup opened journal words world due view walk selected other failed next)
     (verdict : Verdict) (stopped : next ≡ Stopped verdict) where
   abbrev x : Position
   x = position_in journal words
@@ -89,10 +90,10 @@ module _ {S O : Type 0} (after_s : S → ℕ → S) (after_o : O → ℕ → O) 
   bent_is : min (bent_s selected + bent_o other) max_word ≡ bent_at setup x
   bent_is =
       ap (λ s. min (bent_s s + bent_o other) max_word) running.selected
-      ∙ ap (λ o. min (bent_s (after_bounds after_s opened.selected (selected_asked setup.rule setup (drawn_by next x))) + bent_o o) max_word) running.other
-      ∙ ap (λ xs. min (bent_s (after_bounds after_s opened.selected (selected_asked setup.rule setup xs)) + bent_o (after_bounds after_o opened.other (other_asked setup.rule setup xs))) max_word) drawn_is
-      ∙ ap (λ n. min (n + bent_o (after_bounds after_o opened.other (other_asked setup.rule setup (drawn setup x)))) max_word) (sym (from_s (selected_asked setup.rule setup (drawn setup x))))
-      ∙ ap (λ n. min (setup.selected.bent (selected_asked setup.rule setup (drawn setup x)) + n) max_word) (sym (from_o (other_asked setup.rule setup (drawn setup x))))
+      ∙ ap (λ o. min (bent_s (after_bounds draws_s opened.selected (selected_asked setup (drawn_by next x))) + bent_o o) max_word) running.other
+      ∙ ap (λ xs. min (bent_s (after_bounds draws_s opened.selected (selected_asked setup xs)) + bent_o (after_bounds draws_o opened.other (other_asked setup xs))) max_word) drawn_is
+      ∙ ap (λ n. min (n + bent_o (after_bounds draws_o opened.other (other_asked setup (drawn setup x)))) max_word) (sym (from_s (selected_asked setup (drawn setup x))))
+      ∙ ap (λ n. min (setup.selected.bent (selected_asked setup (drawn setup x)) + n) max_word) (sym (from_o (other_asked setup (drawn setup x))))
 
   pub ran-finished : (ran : Ran) (last : List (Option Event)) (bent : ℕ) (selection : List Pickable) (monitors : List Monitor)
       → ran ≡ record { journal = journal; world = world; verdict = verdict; words = last; bent = bent; selection = selection; monitors = monitors; failed = at_end world (length journal) verdict failed monitors }

@@ -1,25 +1,22 @@
 -- A position at which a thread is granted its step.
-use Rattle.std.proofs.Common.{◌≡◌, ◌≢◌, ℕ, zero, suc, ◌+◌, ◌&&◌, ◌<◌, ◌≤◌, leb, Bool, true, false, cond, List, [], ◌∷◌, length, get_or, map, is_some, slice_get, Option, None, Some, IsTrue, IsSomeAnd, IsOk, Result, Ok, Err, refl, ap, sym, subst, ◌∙◌, inl, inr, arith}
+use Rattle.std.proofs.Common.{◌≡◌, ◌≢◌, ℕ, zero, suc, ◌+◌, ◌&&◌, ◌<◌, ◌≤◌, leb, Bool, true, false, cond, List, [], ◌∷◌, length, get_or, map, is_some, slice_get, Option, None, Some, IsTrue, IsSomeAnd, refl, ap, sym, subst, ◌∙◌, inl, inr, arith}
 use Rattle.std.proofs.lemmas.Bool.{cases_lt, false≢true, leb-false}
 use Rattle.event_class.specs.declared.event.Event.{Event}
 use Rattle.event_class.specs.Selection.{has}
-use Rattle.seed_draws.specs.declared.draw_fault.DrawFault.{DrawFault}
 use Rattle.test_world.specs.World.{is_enabled}
 use Rattle.walk_rules.specs.declared.picked.Grant.{Grant}
 use Rattle.walk_rules.specs.declared.picked.Picked.{Picked}
 use Rattle.walk_rules.specs.declared.picked.Picked.TheVariants as picked
-use Rattle.walk_rules.specs.declared.rule.Rule.{Rule}
-use Rattle.walk_rules.specs.declared.rule.Rule.TheVariants.{Urw, Plain}
-use Rattle.walk_rules.specs.Granted.{granted_at}
 use Rattle.walk_rules.specs.Seen.{is_able, seen_of}
-use Rattle.walk_rules.specs.Walk.{counts_down}
+use Rattle.walk_rules.specs.Strategies.{counts_down}
 use Rattle.run_rules.specs.declared.verdict.Verdict.{Verdict}
-use Rattle.run_rules.specs.declared.verdict.Verdict.TheVariants.{WrongCount}
+use Rattle.run_rules.specs.Left.{left_by}
 use Rattle.run_rules.specs.Made.{events_made}
 use Rattle.run_rules.specs.Position.{Position, seen_at, world_at}
 use Rattle.run_rules.specs.Setup.{Setup}
-use Rattle.run_rules.specs.Verdict.{first_miscounted, is_miscounted, verdict_at, wrong_count}
-use Rattle.run_rules.proofs.Choices.{is-counted, none-mapped}
+use Rattle.run_rules.specs.Verdict.{is_miscounted, verdict_at, wrong_count}
+use Rattle.run_rules.proofs.Choices.{is-counted}
+use Rattle.run_rules.proofs.Counts.{none-miscounted}
 use Rattle.run_rules.proofs.Numbers.{left-any}
 use Rattle.run_rules.proofs.Verdicts.{limit-none, verdict-none}
 use Rattle.run_rules.proofs.Words.{has-word}
@@ -28,7 +25,7 @@ use Rattle.pure_run.specs.declared.word.Word.{Word}
 use Rattle.pure_run.specs.declared.word.Word.TheVariants as word
 use Rattle.pure_run.specs.declared.word.Word.TheVariants.{Said}
 use Rattle.pure_run.specs.Core.{last_word, thread_of}
-use Rattle.pure_run.specs.Kept.{left_by, next_by}
+use Rattle.pure_run.specs.Kept.{next_by}
 
 -- a step is granted: no word is due, there is no verdict, and the choice is the grant
 pub record IsGrant (due : Bool) (verdict : Option Verdict) (chosen : Picked) (grant : Grant) : Type 0 where
@@ -42,11 +39,6 @@ is-grant false (Some verdict) chosen grant is = cc
 is-grant false None (picked.Grant thread forced) grant is = record { said = refl; going = refl; choice = cc }
 is-grant false None (picked.Stop fault) grant is = cc
 
--- where a grant comes of an answer, it was no refusal
-pub ok-granted : (thread_of : ℕ → ℕ) (r : Result ℕ DrawFault) (thread : ℕ) (forced : Bool) → granted_at thread_of r ≡ picked.Grant thread forced → IsOk r
-ok-granted thread_of (Ok draw) thread forced is = refl
-ok-granted thread_of (Err fault) thread forced is = cc
-
 below-limit : (n limit : ℕ) → n ≢ limit → n ≤ limit → n + 1 ≤ limit
 below-limit n limit differ short = elim (cases_lt n limit) [ inl below ↦ omega (arith, below) | inr past ↦ absurd (differ (omega (arith, past, short))) ]
 
@@ -59,26 +51,29 @@ fewer-made : (selected : Bool) (counted made : ℕ) → (selected && leb counted
 fewer-made true counted made right is = leb-false counted made right
 fewer-made false counted made right is = absurd (false≢true is)
 
-pub made-fewer : (setup : Setup) (x : Position) (thread : ℕ) (event : Event) → wrong_count Urw setup x ≡ None → thread < length x.words
-    → get_or x.words thread None ≡ Some event → has setup.selection event ≡ true
+pub made-fewer : (setup : Setup) (x : Position) (thread : ℕ) (event : Event) → wrong_count setup x ≡ None → thread < length x.words
+    → get_or x.words thread None ≡ Some event → IsTrue (counts_down setup.rule) → has setup.selection event ≡ true
     → events_made setup.selection x.journal thread < get_or setup.counts thread 0
-made-fewer setup x thread event none within word selected =
+made-fewer setup x thread event none within word counts selected =
     let counted : ℕ = get_or setup.counts thread 0 in
     let made : ℕ = events_made setup.selection x.journal thread in
-    let first = none-mapped (λ t. WrongCount (length x.journal) t (get_or setup.counts t 0) (events_made setup.selection x.journal t)) (first_miscounted setup x) none in
     let right : is_miscounted setup.selection counted made (Some event) ≡ false =
-    ap (is_miscounted setup.selection counted made) (sym word) ∙ is-counted setup x thread first within in
+    ap (is_miscounted setup.selection counted made) (sym word) ∙ is-counted setup x thread (none-miscounted setup x counts none) within in
     fewer-made (has setup.selection event) counted made right selected
 
--- so a number is left
-pub left-some : (rule : Rule) (setup : Setup) (x : Position) (thread : ℕ) (event : Event) → wrong_count rule setup x ≡ None → thread < length x.words
-    → get_or x.words thread None ≡ Some event → IsTrue (counts_down rule) → IsTrue (has setup.selection event)
-    → 0 < get_or (left_by rule setup x) thread 0
-left-some Urw setup x thread event none within word counts selected =
-    let fewer = made-fewer setup x thread event none within word selected in
+some-left : (counting : Bool) (setup : Setup) (x : Position) (thread : ℕ) → IsTrue counting
+    → events_made setup.selection x.journal thread < get_or setup.counts thread 0 → 0 < get_or (left_by counting setup x) thread 0
+some-left true setup x thread counts fewer =
     let left = left-any setup.selection setup.counts x.journal thread in
     omega (arith, fewer, left)
-left-some Plain setup x thread event none within word counts selected = absurd (false≢true counts)
+some-left false setup x thread counts fewer = absurd (false≢true counts)
+
+-- so a number is left
+pub left-some : (setup : Setup) (x : Position) (thread : ℕ) (event : Event) → wrong_count setup x ≡ None → thread < length x.words
+    → get_or x.words thread None ≡ Some event → IsTrue (counts_down setup.rule) → IsTrue (has setup.selection event)
+    → 0 < get_or (left_by (counts_down setup.rule) setup x) thread 0
+left-some setup x thread event none within word counts selected =
+    some-left (counts_down setup.rule) setup x thread counts (made-fewer setup x thread event none within word counts selected)
 
 -- the thread that is granted a step announces an event that is enabled
 pub able-word : (setup : Setup) (x : Position) (thread : ℕ) → IsTrue (is_able (seen_of (seen_at setup x) thread))

@@ -1,6 +1,5 @@
 pub mod Advanced
 pub mod Answered
-pub mod Chosen
 pub mod Decisions
 pub mod Finishing
 pub mod Granting

@@ -7,51 +7,50 @@ use Rattle.std.specs.List.{list_any, slice_get}
 use Rattle.std.specs.Option.{option_or}
 use Rattle.event_class.specs.Selection.{has}
 use Rattle.draw_split.specs.Bag.{less_one}
-use Rattle.seed_draws.specs.Answers.{after_bounds}
-use Rattle.seed_draws.specs.declared.draw_fault.DrawFault.{DrawFault}
+use Rattle.seed_draws.specs.Answers.{IsSource, after_bounds}
+use Rattle.seed_draws.specs.declared.draws.Draws.{Ghosts}
 use Rattle.test_world.specs.declared.monitor.Monitor.{Monitor}
 use Rattle.test_world.specs.declared.monitor.Monitor.TheVariants.{WriteAhead, LogWhole, Expect, CellEnd}
 use Rattle.test_world.specs.World.{WorldState, after, is_enabled, new_world, reply}
 use Rattle.walk_rules.specs.declared.picked.Picked.TheVariants as picked
-use Rattle.walk_rules.specs.declared.rule.Rule.{Rule}
-use Rattle.walk_rules.specs.declared.rule.Rule.TheVariants.{Urw, Plain}
 use Rattle.walk_rules.specs.declared.seen.Seen.{Seen}
-use Rattle.walk_rules.specs.Plain.{plain_thread}
-use Rattle.walk_rules.specs.Urw.{urw_thread}
-use Rattle.walk_rules.specs.Walk.{WalkState, after_done, counts_down}
+use Rattle.walk_rules.specs.State.{WalkState}
+use Rattle.walk_rules.specs.Strategies.{counts_down}
+use Rattle.walk_rules.specs.Walk.{after_done, after_picked}
 use Rattle.run_rules.specs.declared.entry.Entry.{Entry}
-use Rattle.run_rules.specs.Answer.{answer_at}
-use Rattle.run_rules.specs.Choice.{choice, choice_by, other_asked, selected_asked}
+use Rattle.run_rules.specs.Choice.{choice, choices, other_asked, pick_at, selected_asked, walk_at}
+use Rattle.run_rules.specs.Follows.{WereAnswered}
 use Rattle.run_rules.specs.Journal.{world_after}
 use Rattle.run_rules.specs.Made.{events_made}
-use Rattle.run_rules.specs.PlainChoice.{plain_bound_at, plain_choice}
 use Rattle.run_rules.specs.Position.{Position, earlier, seen_at, seen_word, world_at}
 use Rattle.run_rules.specs.Setup.{Setup}
-use Rattle.run_rules.specs.UrwChoice.{left_at, urw_bound_at, urw_choice}
-use Rattle.run_rules.specs.Verdict.{verdict_at, wrong_count}
+use Rattle.run_rules.specs.Left.{left_by}
+use Rattle.run_rules.specs.Verdict.{verdict_at}
+use Rattle.run_rules.proofs.Choices.{granted-answered}
 use Rattle.run_rules.proofs.Fails.{failing-more}
 use Rattle.run_rules.proofs.Journals.{world-more}
 use Rattle.run_rules.proofs.Numbers.{left-kept, left-more, made-more}
+use Rattle.run_rules.proofs.StrategiesFollow.{follows}
 use Rattle.run_rules.proofs.Verdicts.{verdict-none}
 use Rattle.pure_run.specs.declared.next.Next.TheVariants as next
 use Rattle.pure_run.specs.declared.word.Word.{Word}
 use Rattle.pure_run.specs.declared.word.Word.TheVariants.{Due, Said}
 use Rattle.pure_run.specs.Core.{is_due, last_word, position_in}
-use Rattle.pure_run.specs.Kept.{AreMadeAsCounted, IsKept, IsRunning, failed_so_far, left_by}
+use Rattle.pure_run.specs.Kept.{AreMadeAsCounted, IsKept, IsRunning, failed_so_far}
 use Rattle.pure_run.specs.Opened.{OpenedWith}
 use Rattle.pure_run.specs.Watched.{failed_in, failed_then}
-use Rattle.pure_run.proofs.Granting.{made-fewer, ok-granted}
-use Rattle.pure_run.proofs.Performed.{last-event, longer-earlier, within}
+use Rattle.pure_run.proofs.Granting.{made-fewer}
+use Rattle.pure_run.proofs.Performed.{last-event, longer-earlier, within, word-back}
 use Rattle.pure_run.proofs.Ready.{IsReady}
 use Rattle.pure_run.proofs.Tests.{count-none, count-set_up}
 
 -- the numbers left after a step
-left-step : (rule : Rule) (setup : Setup) (journal : List Entry) (words now : List Word) (entry : Entry) (chosen : Bool) → has setup.selection entry.event ≡ chosen
-    → cond (counts_down rule && chosen) (less_one (left_by rule setup (position_in journal words)) entry.thread) (left_by rule setup (position_in journal words))
-    ≡ left_by rule setup (position_in (journal ++ entry ∷ []) now)
-left-step Urw setup journal words now entry true is = sym (left-more setup.selection setup.counts journal entry is)
-left-step Urw setup journal words now entry false is = sym (left-kept setup.selection setup.counts journal entry is)
-left-step Plain setup journal words now entry chosen is = refl
+left-step : (counting : Bool) (setup : Setup) (journal : List Entry) (words now : List Word) (entry : Entry) (chosen : Bool) → has setup.selection entry.event ≡ chosen
+    → cond (counting && chosen) (less_one (left_by counting setup (position_in journal words)) entry.thread) (left_by counting setup (position_in journal words))
+    ≡ left_by counting setup (position_in (journal ++ entry ∷ []) now)
+left-step true setup journal words now entry true is = sym (left-more setup.selection setup.counts journal entry is)
+left-step true setup journal words now entry false is = sym (left-kept setup.selection setup.counts journal entry is)
+left-step false setup journal words now entry chosen is = refl
 
 -- one event more of a thread that made fewer than counted
 made-one : (made counted : ℕ) (selected same : Bool) → made ≤ counted → (selected ≡ true → same ≡ true → made < counted) → made + cond (selected && same) 1 0 ≤ counted
@@ -59,17 +58,16 @@ made-one made counted true true within fewer = let less = fewer refl refl in ome
 made-one made counted true false within fewer = omega (arith, within)
 made-one made counted false same within fewer = omega (arith, within)
 
-made-step : (rule : Rule) (setup : Setup) (journal : List Entry) (entry : Entry) → AreMadeAsCounted rule setup journal
-    → ((is : rule ≡ Urw) → has setup.selection entry.event ≡ true → events_made setup.selection journal entry.thread < get_or setup.counts entry.thread 0)
-    → AreMadeAsCounted rule setup (journal ++ entry ∷ [])
-made-step Urw setup journal entry made fewer = λ thread.
+made-step : (setup : Setup) (journal : List Entry) (entry : Entry) → AreMadeAsCounted setup journal
+    → (IsTrue (counts_down setup.rule) → has setup.selection entry.event ≡ true → events_made setup.selection journal entry.thread < get_or setup.counts entry.thread 0)
+    → AreMadeAsCounted setup (journal ++ entry ∷ [])
+made-step setup journal entry made fewer = λ counts thread.
     let more = made-more setup.selection journal entry thread in
-    let one = made-one (events_made setup.selection journal thread) (get_or setup.counts thread 0) (has setup.selection entry.event) (entry.thread == thread) (made thread)
+    let one = made-one (events_made setup.selection journal thread) (get_or setup.counts thread 0) (has setup.selection entry.event) (entry.thread == thread) (made counts thread)
     (λ selected same.
     let e : entry.thread ≡ thread = eqb-true entry.thread thread same in
-    subst (λ t. events_made setup.selection journal t < get_or setup.counts t 0) e (fewer refl selected)) in
+    subst (λ t. events_made setup.selection journal t < get_or setup.counts t 0) e (fewer counts selected)) in
     omega (arith, more, one)
-made-step Plain setup journal entry made fewer = tt
 
 -- the places of the monitors after a step
 place-step : (setup : Setup) (journal : List Entry) (entry : Entry) (monitor : Monitor)
@@ -90,28 +88,8 @@ places-step setup journal entry (monitor ∷ monitors) =
     (place-step setup journal entry monitor)
     ∙ ap (λ places. failed_so_far setup (journal ++ entry ∷ []) monitor ∷ places) (places-step setup journal entry monitors)
 
--- the bounds up to a position at which a step was granted were all answered
-ok-at : (r : Result (List ℕ) DrawFault) (k : ℕ) → IsOk (answer_at r k) → IsOk r
-ok-at (Ok draws) k ok = refl
-ok-at (Err fault) k ok = ok
-
-selected-granted : (rule : Rule) (setup : Setup) (x : Position) (thread : ℕ) (forced : Bool) → choice_by rule setup x ≡ picked.Grant thread forced
-    → IsOk (setup.selected.answers (selected_asked rule setup (earlier x))) → IsOk (setup.selected.answers (selected_asked rule setup (earlier x ++ x ∷ [])))
-unfolding urw_choice
-selected-granted Urw setup x thread forced chosen ok =
-    let r : Result (List ℕ) DrawFault = setup.selected.answers (map (urw_bound_at setup) (earlier x ++ x ∷ [])) in
-    ok-at r (length x.journal) (ok-granted (urw_thread (left_at setup x) (seen_at setup x)) (answer_at r (length x.journal)) thread forced chosen)
-selected-granted Plain setup x thread forced chosen ok = ok
-
-other-granted : (rule : Rule) (setup : Setup) (x : Position) (thread : ℕ) (forced : Bool) → choice_by rule setup x ≡ picked.Grant thread forced
-    → IsOk (setup.other.answers (other_asked rule setup (earlier x))) → IsOk (setup.other.answers (other_asked rule setup (earlier x ++ x ∷ [])))
-unfolding plain_choice
-other-granted Urw setup x thread forced chosen ok = ok
-other-granted Plain setup x thread forced chosen ok =
-    let r : Result (List ℕ) DrawFault = setup.other.answers (map (plain_bound_at setup) (earlier x ++ x ∷ [])) in
-    ok-at r (length x.journal) (ok-granted (plain_thread (seen_at setup x)) (answer_at r (length x.journal)) thread forced chosen)
-
-module _ {S O : Type 0} (after_s : S → ℕ → S) (after_o : O → ℕ → O) (setup : Setup) (opened : OpenedWith S O)
+module _ {S O : Type 0} (draws_s : Ghosts S) (draws_o : Ghosts O) (setup : Setup) (opened : OpenedWith S O)
+    (source_s : IsSource setup.selected.answers) (source_o : IsSource setup.other.answers)
     (journal : List Entry) (words : List Word) (entry : Entry)
     (world : WorldState) (due : ℕ) (view : List Seen) (walk : WalkState) (selected : S) (other : O) (failed : List (Option ℕ))
     (kept : IsKept setup journal words)
@@ -121,7 +99,7 @@ module _ {S O : Type 0} (after_s : S → ℕ → S) (after_o : O → ℕ → O) 
     (chosen : choice setup (position_in journal words) ≡ picked.Grant entry.thread entry.forced)
     (enabled : IsTrue (is_enabled (world_at setup (position_in journal words)) entry.event))
     (replied : entry.reply ≡ reply (world_at setup (position_in journal words)) entry.thread entry.event)
-    (running : IsRunning after_s after_o setup opened journal words world due view walk selected other failed (next.Granted (record { thread = entry.thread; forced = entry.forced }))) where
+    (running : IsRunning draws_s draws_o setup opened journal words world due view walk selected other failed (next.Granted (record { thread = entry.thread; forced = entry.forced }))) where
   abbrev x : Position
   x = position_in journal words
 
@@ -137,17 +115,21 @@ module _ {S O : Type 0} (after_s : S → ℕ → S) (after_o : O → ℕ → O) 
   pub world-step : after world entry.thread entry.event ≡ world_at setup (position_in longer now)
   world-step = ap (λ w. after w entry.thread entry.event) running.world ∙ sym (world-more (new_world setup.size) journal entry)
 
-  fewer : (rule : Rule) → wrong_count rule setup x ≡ None → rule ≡ Urw → has setup.selection entry.event ≡ true
-      → events_made setup.selection journal entry.thread < get_or setup.counts entry.thread 0
-  fewer Urw none is selected =
-      made-fewer setup x entry.thread entry.event none
+  fewer : IsTrue (counts_down setup.rule) → has setup.selection entry.event ≡ true → events_made setup.selection journal entry.thread < get_or setup.counts entry.thread 0
+  fewer counts selected =
+      made-fewer setup x entry.thread entry.event ((verdict-none setup x going).0)
       (omega (arith, within setup journal words entry kept word none_due going chosen enabled replied, length-map words last_word))
-      (last-event setup journal words entry kept word none_due going chosen enabled replied) selected
-  fewer Plain none is selected = cc
+      (last-event setup journal words entry kept word none_due going chosen enabled replied) counts selected
+
+  -- the walk waits for the step
+  walk-waits : walk ≡ record (walk_at setup x) { memory = (pick_at setup x).memory; waiting = Some (record { thread = entry.thread; forced = entry.forced }) }
+  walk-waits =
+      running.walk
+      ∙ ap (λ p. after_picked (walk_at setup x) (pick_at setup x).memory p) ((follows setup.rule).picks setup x running.answered ∙ chosen)
 
   pub ready-performed : (view-then : List Seen) → view-then ≡ map (seen_word (after world entry.thread entry.event) setup.selection) (map last_word now)
-      → IsReady after_s after_o setup opened longer now (after world entry.thread entry.event) 1 view-then
-      (after_done walk entry.thread (has setup.selection entry.event)) selected other
+      → IsReady draws_s draws_o setup opened longer now (after world entry.thread entry.event) 1 view-then
+      (after_done walk entry.thread (has setup.selection entry.event) entry.forced) selected other
       (failed_then (after world entry.thread entry.event) (length journal + 1) failed setup.monitors)
   unfolding seen_at
   ready-performed view-then seen = record {
@@ -159,26 +141,22 @@ module _ {S O : Type 0} (after_s : S → ℕ → S) (after_o : O → ℕ → O) 
         omega (arith, up, count-none is_due words none_due);
     view = seen ∙ ap (λ w. map (seen_word w setup.selection) (map last_word now)) world-step;
     walk =
-        ap (λ w. after_done w entry.thread (has setup.selection entry.event)) running.walk
-        ∙ ap (λ n. record {
+        ap (λ w. after_done w entry.thread (has setup.selection entry.event) entry.forced) walk-waits
+        ∙ (λ i. record {
           rule = setup.rule;
           counts = setup.counts;
-          steps = n;
-          left = cond (counts_down setup.rule && has setup.selection entry.event)
-              (less_one (left_by setup.rule setup x) entry.thread) (left_by setup.rule setup x);
+          steps = sym (length-append journal (entry ∷ [])) i;
+          left = left-step (counts_down setup.rule) setup journal words now entry (has setup.selection entry.event) refl i;
+          memory = (follows setup.rule).keeps setup journal entry (map last_word words) (map last_word now)
+              (word-back setup journal words entry kept word none_due going chosen enabled replied) running.answered chosen i;
           waiting = None;
-        }) (sym (length-append journal (entry ∷ [])))
-        ∙ ap (λ left. record { rule = setup.rule; counts = setup.counts; steps = length longer; left = left; waiting = None })
-        (left-step setup.rule setup journal words now entry (has setup.selection entry.event) refl);
-    made = made-step setup.rule setup journal entry running.made (fewer setup.rule ((verdict-none setup x going).0));
-    selected = running.selected ∙ ap (λ xs. after_bounds after_s opened.selected (selected_asked setup.rule setup xs)) (sym there-earlier);
-    other = running.other ∙ ap (λ xs. after_bounds after_o opened.other (other_asked setup.rule setup xs)) (sym there-earlier);
-    selected_answered =
-        subst (λ xs. IsOk (setup.selected.answers (selected_asked setup.rule setup xs))) (sym there-earlier)
-        (selected-granted setup.rule setup x entry.thread entry.forced chosen running.selected_answered);
-    other_answered =
-        subst (λ xs. IsOk (setup.other.answers (other_asked setup.rule setup xs))) (sym there-earlier)
-        (other-granted setup.rule setup x entry.thread entry.forced chosen running.other_answered);
+        });
+    made = made-step setup journal entry running.made fewer;
+    selected = running.selected ∙ ap (λ xs. after_bounds draws_s opened.selected (selected_asked setup xs)) (sym there-earlier);
+    other = running.other ∙ ap (λ xs. after_bounds draws_o opened.other (other_asked setup xs)) (sym there-earlier);
+    answered =
+        subst (λ xs. WereAnswered (choices setup.rule) setup xs) (sym there-earlier)
+        (granted-answered setup x source_s source_o running.answered entry.thread entry.forced chosen);
     failed =
         ap (λ w. failed_then w (length journal + 1) failed setup.monitors) world-step
         ∙ ap (λ places. failed_then (world_at setup (position_in longer now)) (length journal + 1) places setup.monitors) running.failed

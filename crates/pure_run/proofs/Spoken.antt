@@ -1,29 +1,33 @@
 -- The running parts of a core after a word was said.
-use Rattle.std.proofs.Common.{◌≡◌, ℕ, ◌+◌, ◌-◌, ◌<◌, ◌≤◌, Bool, true, cond, List, length, map, set, Option, None, Some, IsOk, refl, ap, sym, subst, ◌∙◌, arith}
+use Rattle.std.proofs.Common.{◌≡◌, ℕ, ◌+◌, ◌-◌, ◌<◌, ◌≤◌, Bool, true, cond, List, length, map, set, Option, None, Some, refl, ap, sym, subst, ◌∙◌, arith}
 use Rattle.std.proofs.lemmas.List.{append-nil, length-map, length-set, map-set}
 use Rattle.std.proofs.lemmas.List.Folds.{list_any_at}
 use Rattle.std.proofs.lemmas.Option.{get_or_from_slice_get, slice_get_within}
 use Rattle.std.specs.List.{count_by, list_any, slice_get}
 use Rattle.event_class.specs.declared.event.Event.{Event}
 use Rattle.seed_draws.specs.Answers.{after_bounds}
+use Rattle.seed_draws.specs.declared.draws.Draws.{Ghosts}
 use Rattle.test_world.specs.World.{WorldState}
-use Rattle.walk_rules.specs.declared.rule.Rule.{Rule}
-use Rattle.walk_rules.specs.declared.rule.Rule.TheVariants.{Urw, Plain}
 use Rattle.walk_rules.specs.declared.seen.Seen.{Seen}
-use Rattle.walk_rules.specs.Walk.{AreChosenUnder, WalkState}
+use Rattle.walk_rules.specs.State.{WalkState}
+use Rattle.walk_rules.specs.Strategies.{counts_down}
+use Rattle.walk_rules.specs.Walk.{AreChosenUnder}
 use Rattle.run_rules.specs.declared.entry.Entry.{Entry}
-use Rattle.run_rules.specs.Choice.{choice, other_asked, selected_asked}
+use Rattle.run_rules.specs.Choice.{choice, choices, other_asked, selected_asked, walk_at}
+use Rattle.run_rules.specs.Follows.{WereAnswered}
+use Rattle.run_rules.specs.Left.{left_by}
 use Rattle.run_rules.specs.Position.{earlier, seen_at, seen_word, world_at}
 use Rattle.run_rules.specs.Setup.{Setup}
 use Rattle.run_rules.specs.Verdict.{verdict_at}
+use Rattle.run_rules.proofs.Chosen.{chosen-under}
+use Rattle.run_rules.proofs.StrategiesFollow.{follows}
 use Rattle.pure_run.specs.declared.next.Next.{Next}
 use Rattle.pure_run.specs.declared.next.Next.TheVariants as next
 use Rattle.pure_run.specs.declared.word.Word.{Word}
 use Rattle.pure_run.specs.declared.word.Word.TheVariants.{Due, Said}
 use Rattle.pure_run.specs.Core.{is_due, last_word, position_in}
-use Rattle.pure_run.specs.Kept.{IsKept, IsRunning, drawn_by, left_by, next_by, waiting_by, walk_at}
+use Rattle.pure_run.specs.Kept.{IsKept, IsRunning, drawn_by, next_by, walk_by}
 use Rattle.pure_run.specs.Opened.{OpenedWith}
-use Rattle.pure_run.proofs.Chosen.{chosen-under}
 use Rattle.pure_run.proofs.Ready.{IsReady}
 use Rattle.pure_run.proofs.Saids.{said-earlier, said-words}
 use Rattle.pure_run.proofs.Tests.{count-set}
@@ -33,24 +37,11 @@ pub any-due : (words : List Word) (thread : ℕ) → slice_get words thread ≡ 
 any-due words thread at =
     list_any_at is_due words thread Due (slice_get_within words thread Due at) (ap is_due (get_or_from_slice_get words thread Due Due at))
 
--- the numbers left don't depend on the words
-pub left-words : (rule : Rule) (setup : Setup) (journal : List Entry) (words other : List Word)
-    → left_by rule setup (position_in journal words) ≡ left_by rule setup (position_in journal other)
-left-words Urw setup journal words other = refl
-left-words Plain setup journal words other = refl
-
--- nor does the walk, while a word is due
-pub walk-words : (setup : Setup) (journal : List Entry) (words other : List Word) (n : Next)
-    → walk_at setup (position_in journal words) n ≡ walk_at setup (position_in journal other) n
-walk-words setup journal words other n =
-    ap (λ left. record { rule = setup.rule; counts = setup.counts; steps = length journal; left = left; waiting = waiting_by n })
-    (left-words setup.rule setup journal words other)
-
-module _ {S O : Type 0} (after_s : S → ℕ → S) (after_o : O → ℕ → O) (setup : Setup) (opened : OpenedWith S O)
+module _ {S O : Type 0} (draws_s : Ghosts S) (draws_o : Ghosts O) (setup : Setup) (opened : OpenedWith S O)
     (journal : List Entry) (words : List Word) (thread : ℕ) (event : Option Event)
     (world : WorldState) (due : ℕ) (view : List Seen) (walk : WalkState) (selected : S) (other : O) (failed : List (Option ℕ)) (n : Next)
     (kept : IsKept setup journal words) (at : slice_get words thread ≡ Some Due)
-    (running : IsRunning after_s after_o setup opened journal words world due view walk selected other failed n) where
+    (running : IsRunning draws_s draws_o setup opened journal words world due view walk selected other failed n) where
   abbrev said : List Word
   said = set words thread (Said event)
 
@@ -60,10 +51,14 @@ module _ {S O : Type 0} (after_s : S → ℕ → S) (after_o : O → ℕ → O) 
       running.next
       ∙ ap (λ (b : Bool). cond b next.Due (next_by (verdict_at setup (position_in journal words)) (choice setup (position_in journal words)))) (any-due words thread at)
 
+  -- so the walk is as it was when the position was reached
+  walk-now : walk ≡ walk_at setup (position_in journal words)
+  walk-now = running.walk ∙ ap (λ m. walk_by setup (position_in journal words) m) next-due
+
   now-earlier : earlier (position_in journal said) ≡ earlier (position_in journal words)
   now-earlier = said-earlier setup journal words thread event kept at
 
-  pub ready-said : IsReady after_s after_o setup opened journal said world (due - 1) (set view thread (seen_word world setup.selection event)) walk selected other failed
+  pub ready-said : IsReady draws_s draws_o setup opened journal said world (due - 1) (set view thread (seen_word world setup.selection event)) walk selected other failed
   unfolding seen_at
   ready-said = record {
     fresh = running.fresh;
@@ -79,20 +74,25 @@ module _ {S O : Type 0} (after_s : S → ℕ → S) (after_o : O → ℕ → O) 
         ∙ sym (map-set (seen_word (world_at setup (position_in journal words)) setup.selection) (map last_word words) thread event)
         ∙ ap (λ last. map (seen_word (world_at setup (position_in journal words)) setup.selection) last) (sym (said-words setup journal words thread event kept at));
     walk =
-        running.walk
-        ∙ ap (λ m. walk_at setup (position_in journal words) m) next-due
-        ∙ walk-words setup journal words said next.Due;
+        walk-now
+        ∙ (λ i. record {
+          rule = setup.rule;
+          counts = setup.counts;
+          steps = length journal;
+          left = left_by (counts_down setup.rule) setup (position_in journal words);
+          memory = (follows setup.rule).settled setup (position_in journal words) (position_in journal said) refl (sym now-earlier) i;
+          waiting = None;
+        });
     made = running.made;
     selected =
         running.selected
-        ∙ ap (λ m. after_bounds after_s opened.selected (selected_asked setup.rule setup (drawn_by m (position_in journal words)))) next-due
-        ∙ ap (λ xs. after_bounds after_s opened.selected (selected_asked setup.rule setup xs)) (append-nil (earlier (position_in journal words)) ∙ sym now-earlier);
+        ∙ ap (λ m. after_bounds draws_s opened.selected (selected_asked setup (drawn_by m (position_in journal words)))) next-due
+        ∙ ap (λ xs. after_bounds draws_s opened.selected (selected_asked setup xs)) (append-nil (earlier (position_in journal words)) ∙ sym now-earlier);
     other =
         running.other
-        ∙ ap (λ m. after_bounds after_o opened.other (other_asked setup.rule setup (drawn_by m (position_in journal words)))) next-due
-        ∙ ap (λ xs. after_bounds after_o opened.other (other_asked setup.rule setup xs)) (append-nil (earlier (position_in journal words)) ∙ sym now-earlier);
-    selected_answered = subst (λ xs. IsOk (setup.selected.answers (selected_asked setup.rule setup xs))) (sym now-earlier) running.selected_answered;
-    other_answered = subst (λ xs. IsOk (setup.other.answers (other_asked setup.rule setup xs))) (sym now-earlier) running.other_answered;
+        ∙ ap (λ m. after_bounds draws_o opened.other (other_asked setup (drawn_by m (position_in journal words)))) next-due
+        ∙ ap (λ xs. after_bounds draws_o opened.other (other_asked setup xs)) (append-nil (earlier (position_in journal words)) ∙ sym now-earlier);
+    answered = subst (λ xs. WereAnswered (choices setup.rule) setup xs) (sym now-earlier) running.answered;
     failed = running.failed;
   }
 
@@ -111,10 +111,10 @@ module _ {S O : Type 0} (after_s : S → ℕ → S) (after_o : O → ℕ → O) 
       omega (arith, less, all)
 
   pub free : walk.waiting ≡ None
-  free = ap (λ (w : WalkState). w.waiting) running.walk ∙ ap waiting_by next-due
+  free = ap (λ (w : WalkState). w.waiting) walk-now
 
   pub counts-of : walk.counts ≡ setup.counts
-  counts-of = ap (λ (w : WalkState). w.counts) running.walk
+  counts-of = ap (λ (w : WalkState). w.counts) walk-now
 
   pub each-counted : (seen : Seen) → length (set view thread seen) ≡ length walk.counts
   each-counted seen =
@@ -123,6 +123,6 @@ module _ {S O : Type 0} (after_s : S → ℕ → S) (after_o : O → ℕ → O) 
   pub chosen-said : AreChosenUnder walk.rule (set view thread (seen_word world setup.selection event))
   unfolding seen_at
   chosen-said =
-      subst (λ rule. AreChosenUnder rule (set view thread (seen_word world setup.selection event))) (sym (ap (λ (w : WalkState). w.rule) running.walk))
+      subst (λ rule. AreChosenUnder rule (set view thread (seen_word world setup.selection event))) (sym (ap (λ (w : WalkState). w.rule) walk-now))
       (subst (λ v. AreChosenUnder setup.rule v) (sym ready-said.view)
       (chosen-under setup.rule (world_at setup (position_in journal words)) setup.selection (map last_word said) kept.valid.every))

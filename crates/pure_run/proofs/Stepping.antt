@@ -3,10 +3,11 @@ use Rattle.std.proofs.Common.{◌≡◌, ℕ, ◌<◌, Bool, cond, List, length,
 use Rattle.std.proofs.lemmas.Option.{get_or_from_slice_get, same_Some, slice_get_within}
 use Rattle.std.specs.List.{list_any}
 use Rattle.event_class.specs.declared.event.Event.{Event}
+use Rattle.seed_draws.specs.declared.draws.Draws.{Ghosts}
 use Rattle.test_world.specs.World.{WorldState}
 use Rattle.walk_rules.specs.declared.picked.Grant.{Grant}
 use Rattle.walk_rules.specs.declared.seen.Seen.{Seen}
-use Rattle.walk_rules.specs.Walk.{WalkState}
+use Rattle.walk_rules.specs.State.{WalkState}
 use Rattle.run_rules.specs.declared.entry.Entry.{Entry}
 use Rattle.run_rules.specs.Choice.{choice}
 use Rattle.run_rules.specs.Position.{Position, seen_at}
@@ -26,10 +27,10 @@ use Rattle.pure_run.proofs.Granting.{grant-of, next-granted, word-said}
 mark-of : (grant other : Grant) → Granted grant ≡ Granted other → grant.forced ≡ other.forced
 mark-of grant other same = cc
 
-module _ {S O : Type 0} (after_s : S → ℕ → S) (after_o : O → ℕ → O) (setup : Setup) (opened : OpenedWith S O)
+module _ {S O : Type 0} (draws_s : Ghosts S) (draws_o : Ghosts O) (setup : Setup) (opened : OpenedWith S O)
     (journal : List Entry) (words : List Word)
     (world : WorldState) (due : ℕ) (view : List Seen) (walk : WalkState) (selected : S) (other : O) (failed : List (Option ℕ)) (next : Next)
-    (running : IsRunning after_s after_o setup opened journal words world due view walk selected other failed next)
+    (running : IsRunning draws_s draws_o setup opened journal words world due view walk selected other failed next)
     (thread : ℕ)
     (granted : cond (list_any is_due words) None (cond (is_some (verdict_at setup (position_in journal words))) None (thread_of (choice setup (position_in journal words)))) ≡ Some thread) where
   abbrev pub core : CoreState S O

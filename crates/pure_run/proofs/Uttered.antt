@@ -3,55 +3,57 @@ use Rattle.std.proofs.Common.{◌≡◌, ℕ, ◌-◌, List, length, set, Result
 use Rattle.std.specs.List.{slice_get}
 use Rattle.event_class.specs.declared.event.Event.{Event}
 use Rattle.seed_draws.specs.Answers.{after_bounds, answers}
-use Rattle.seed_draws.specs.declared.draw_fault.DrawFault.{DrawFault}
+use Rattle.seed_draws.specs.declared.draws.Draws.{Ghosts}
 use Rattle.test_world.specs.World.{WorldState}
 use Rattle.walk_rules.specs.declared.seen.Seen.{Seen}
-use Rattle.walk_rules.specs.Walk.{AreChosenUnder, WalkState}
+use Rattle.walk_rules.specs.State.{WalkState}
+use Rattle.walk_rules.specs.Strategies.{pick_from}
+use Rattle.walk_rules.specs.Walk.{AreChosenUnder}
 use Rattle.run_rules.specs.declared.entry.Entry.{Entry}
 use Rattle.run_rules.specs.Position.{seen_word}
 use Rattle.run_rules.specs.Setup.{Setup}
 use Rattle.pure_run.specs.declared.next.Next.{Next}
 use Rattle.pure_run.specs.declared.word.Word.{Word}
 use Rattle.pure_run.specs.declared.word.Word.TheVariants.{Due, Said}
-use Rattle.pure_run.specs.Decided.{decided_unless, other_bounds_by, selected_bounds_by, waiting_after}
+use Rattle.pure_run.specs.Decided.{bounds_by, decided_unless, walk_then}
 use Rattle.pure_run.specs.Kept.{IsAbleNext, IsKept, IsRunning}
 use Rattle.pure_run.specs.Opened.{OpenedWith}
 use Rattle.pure_run.proofs.Ready.{IsReady, running}
 use Rattle.pure_run.proofs.Saids.{kept-said}
 use Rattle.pure_run.proofs.Spoken.{chosen-said, ready-said}
 
-module _ {S O : Type 0} (answer_s : S → ℕ → Result ℕ DrawFault) (after_s : S → ℕ → S) (answer_o : O → ℕ → Result ℕ DrawFault) (after_o : O → ℕ → O)
+module _ {S O : Type 0} (draws_s : Ghosts S) (draws_o : Ghosts O)
     (setup : Setup) (opened : OpenedWith S O)
-    (from_s : (bounds : List ℕ) → setup.selected.answers bounds ≡ answers answer_s after_s opened.selected bounds)
-    (from_o : (bounds : List ℕ) → setup.other.answers bounds ≡ answers answer_o after_o opened.other bounds)
+    (from_s : (bounds : List ℕ) → setup.selected.answers bounds ≡ answers draws_s opened.selected bounds)
+    (from_o : (bounds : List ℕ) → setup.other.answers bounds ≡ answers draws_o opened.other bounds)
     (journal : List Entry) (words : List Word) (thread : ℕ) (event : Option Event)
     (world : WorldState) (due : ℕ) (view : List Seen) (walk : WalkState) (selected : S) (other : O) (failed : List (Option ℕ)) (n : Next)
     (kept : IsKept setup journal words) (at : slice_get words thread ≡ Some Due)
-    (run : IsRunning after_s after_o setup opened journal words world due view walk selected other failed n)
+    (run : IsRunning draws_s draws_o setup opened journal words world due view walk selected other failed n)
     (view-then : List Seen) (view_is : view-then ≡ set view thread (seen_word world setup.selection event)) where
   pub chosen-then : AreChosenUnder walk.rule view-then
   chosen-then =
       subst (λ v. AreChosenUnder walk.rule v) (sym view_is)
-      (chosen-said after_s after_o setup opened journal words thread event world due view walk selected other failed n kept at run)
+      (chosen-said draws_s draws_o setup opened journal words thread event world due view walk selected other failed n kept at run)
 
-  ready-then : IsReady after_s after_o setup opened journal (set words thread (Said event)) world (due - 1) view-then walk selected other failed
+  ready-then : IsReady draws_s draws_o setup opened journal (set words thread (Said event)) world (due - 1) view-then walk selected other failed
   ready-then =
-      subst (λ v. IsReady after_s after_o setup opened journal (set words thread (Said event)) world (due - 1) v walk selected other failed) (sym view_is)
-      (ready-said after_s after_o setup opened journal words thread event world due view walk selected other failed n kept at run)
+      subst (λ v. IsReady draws_s draws_o setup opened journal (set words thread (Said event)) world (due - 1) v walk selected other failed) (sym view_is)
+      (ready-said draws_s draws_o setup opened journal words thread event world due view walk selected other failed n kept at run)
 
   pub core-then : (words-then : List Word) (next : Next) (walk-then : WalkState) (selected-then : S) (other-then : O)
       → words-then ≡ set words thread (Said event)
-      → next ≡ decided_unless (due - 1) (length journal) setup.max_steps walk view-then (answer_s selected) (answer_o other)
-      → walk-then ≡ waiting_after walk next
-      → selected-then ≡ after_bounds after_s selected (selected_bounds_by walk view-then next)
-      → other-then ≡ after_bounds after_o other (other_bounds_by walk view-then next)
+      → next ≡ decided_unless (due - 1) (length journal) setup.max_steps walk view-then (pick_from draws_s draws_o walk view-then selected other).picked
+      → walk-then ≡ walk_then walk (pick_from draws_s draws_o walk view-then selected other) next
+      → selected-then ≡ after_bounds draws_s selected (bounds_by next (pick_from draws_s draws_o walk view-then selected other).selected_bounds)
+      → other-then ≡ after_bounds draws_o other (bounds_by next (pick_from draws_s draws_o walk view-then selected other).other_bounds)
       → IsAbleNext view-then next
       → IsKept setup journal words-then
-      × IsRunning after_s after_o setup opened journal words-then world (due - 1) view-then walk-then selected-then other-then failed next
+      × IsRunning draws_s draws_o setup opened journal words-then world (due - 1) view-then walk-then selected-then other-then failed next
   core-then words-then next walk-then selected-then other-then words_is next_is walk_is selected_is other_is able =
-      subst (λ ws. IsKept setup journal ws × IsRunning after_s after_o setup opened journal ws world (due - 1) view-then walk-then selected-then other-then failed next)
+      subst (λ ws. IsKept setup journal ws × IsRunning draws_s draws_o setup opened journal ws world (due - 1) view-then walk-then selected-then other-then failed next)
       (sym words_is) (
         kept-said setup journal words thread event kept at,
-        running answer_s after_s answer_o after_o setup opened from_s from_o journal (set words thread (Said event))
+        running draws_s draws_o setup opened from_s from_o journal (set words thread (Said event))
             world (due - 1) view-then walk selected other failed ready-then next walk-then selected-then other-then next_is walk_is selected_is other_is able,
       )

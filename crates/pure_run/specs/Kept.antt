@@ -1,27 +1,27 @@
 -- The core invariant: what is true of every core.
-use Rattle.std.specs.Prelude.{◌≡◌, ℕ, ◌-◌, ◌≤◌, Bool, true, false, List, [], ◌∷◌, ◌++◌, length, map, slice_get, slice_index, slice_index_or, Option, None, Some, IsTrue, IsOk, if◌then◌else◌}
+use Rattle.std.specs.Prelude.{◌≡◌, ℕ, ◌-◌, ◌≤◌, Bool, true, false, List, [], ◌∷◌, ◌++◌, length, map, slice_get, slice_index, slice_index_or, Option, None, Some, IsTrue, if◌then◌else◌}
 use Rattle.std.specs.List.{count_by, list_any}
+use Rattle.seed_draws.specs.declared.draws.Draws.{Ghosts}
 use Rattle.seed_draws.specs.Answers.{after_bounds}
 use Rattle.test_world.specs.declared.monitor.Monitor.{Monitor}
 use Rattle.test_world.specs.declared.monitor.Monitor.TheVariants.{CellEnd}
 use Rattle.test_world.specs.World.{WorldState, new_world, is_enabled, reply}
-use Rattle.walk_rules.specs.declared.picked.Grant.{Grant}
 use Rattle.walk_rules.specs.declared.picked.Picked.{Picked}
 use Rattle.walk_rules.specs.declared.picked.Picked.TheVariants as picked
-use Rattle.walk_rules.specs.declared.rule.Rule.{Rule}
-use Rattle.walk_rules.specs.declared.rule.Rule.TheVariants.{Urw, Plain}
 use Rattle.walk_rules.specs.declared.seen.Seen.{Seen}
 use Rattle.walk_rules.specs.Seen.{is_able, seen_of}
-use Rattle.walk_rules.specs.Walk.{WalkState, new_walk}
+use Rattle.walk_rules.specs.State.{WalkState, new_walk}
+use Rattle.walk_rules.specs.Strategies.{counts_down}
+use Rattle.walk_rules.specs.Walk.{after_pick}
 use Rattle.run_rules.specs.declared.entry.Entry.{Entry}
 use Rattle.run_rules.specs.declared.verdict.Verdict.{Verdict}
-use Rattle.run_rules.specs.Choice.{choice, selected_asked, other_asked}
+use Rattle.run_rules.specs.Choice.{choice, choices, selected_asked, other_asked, pick_at, walk_at}
 use Rattle.run_rules.specs.Failed.{first_failing}
+use Rattle.run_rules.specs.Follows.{WereAnswered}
 use Rattle.run_rules.specs.Made.{events_made}
 use Rattle.run_rules.specs.Position.{Position, earlier, position_at, seen_at, world_at}
 use Rattle.run_rules.specs.Run.{GoesOn, is_drawn}
 use Rattle.run_rules.specs.Setup.{Setup, IsValid}
-use Rattle.run_rules.specs.UrwChoice.{left_at}
 use Rattle.run_rules.specs.Verdict.{verdict_at}
 use Rattle.pure_run.specs.declared.next.Next.{Next}
 use Rattle.pure_run.specs.declared.next.Next.TheVariants.{Due, Granted, Stopped}
@@ -67,24 +67,13 @@ is_drawn_at (Stopped verdict) = is_drawn (Some verdict)
 abbrev pub drawn_by : Next → Position → List Position
 drawn_by next x = earlier x ++ (if is_drawn_at next then x ∷ [] else [])
 
--- the numbers that a rule has left
-abbrev pub left_by : Rule → Setup → Position → List ℕ
-left_by Urw setup x = left_at setup x
-left_by Plain setup x = setup.counts
+-- the running walk: as it is when the position is reached, and after the pick where draws were asked for
+abbrev pub walk_by : Setup → Position → Next → WalkState
+walk_by setup x next = if is_drawn_at next then after_pick (walk_at setup x) (pick_at setup x) else walk_at setup x
 
--- the grant that waits for its step
-abbrev pub waiting_by : Next → Option Grant
-waiting_by (Granted grant) = Some grant
-waiting_by _ = None
-
--- the running walk, from the walk as new
-abbrev pub walk_at : Setup → Position → Next → WalkState
-walk_at setup x next = record { rule = setup.rule; counts = setup.counts; steps = length x.journal; left = left_by setup.rule setup x; waiting = waiting_by next }
-
--- under URW no thread made more events than counted
-abbrev pub AreMadeAsCounted : Rule → Setup → List Entry → Type 0
-AreMadeAsCounted Urw setup journal = (thread : ℕ) → events_made setup.selection journal thread ≤ slice_index setup.counts thread
-AreMadeAsCounted Plain setup journal = Unit {0}
+-- where the rule takes selected events from the numbers left, no thread made more than counted
+abbrev pub AreMadeAsCounted : Setup → List Entry → Type 0
+AreMadeAsCounted setup journal = IsTrue (counts_down setup.rule) → (thread : ℕ) → events_made setup.selection journal thread ≤ slice_index setup.counts thread
 
 -- the thread that is granted a step is able
 abbrev pub IsAbleNext : List Seen → Next → Type 0
@@ -97,19 +86,18 @@ failed_so_far setup journal (CellEnd cell value) = None
 failed_so_far setup journal monitor = first_failing (new_world setup.size) journal monitor
 
 -- the running parts of a core are those that its journal and its words define
-pub record IsRunning {S O : Type 0} (selected_after : S → ℕ → S) (other_after : O → ℕ → O) (setup : Setup) (opened : OpenedWith S O)
+pub record IsRunning {S O : Type 0} (selected_draws : Ghosts S) (other_draws : Ghosts O) (setup : Setup) (opened : OpenedWith S O)
     (journal : List Entry) (words : List Word)
     (world-now : WorldState) (words-due : ℕ) (view-now : List Seen) (walk-now : WalkState) (selected-now : S) (other-now : O) (failed-now : List (Option ℕ)) (next-now : Next) : Type 0 where
   pub fresh : opened.walk ≡ new_walk opened.walk.rule opened.walk.counts
   pub world : world-now ≡ world_at setup (position_in journal words)
   pub due : words-due ≡ count_by is_due words
   pub view : view-now ≡ seen_at setup (position_in journal words)
-  pub walk : walk-now ≡ walk_at setup (position_in journal words) next-now
-  pub made : AreMadeAsCounted setup.rule setup journal
-  pub selected : selected-now ≡ after_bounds selected_after opened.selected (selected_asked setup.rule setup (drawn_by next-now (position_in journal words)))
-  pub other : other-now ≡ after_bounds other_after opened.other (other_asked setup.rule setup (drawn_by next-now (position_in journal words)))
-  pub selected_answered : IsOk (setup.selected.answers (selected_asked setup.rule setup (earlier (position_in journal words))))
-  pub other_answered : IsOk (setup.other.answers (other_asked setup.rule setup (earlier (position_in journal words))))
+  pub walk : walk-now ≡ walk_by setup (position_in journal words) next-now
+  pub made : AreMadeAsCounted setup journal
+  pub selected : selected-now ≡ after_bounds selected_draws opened.selected (selected_asked setup (drawn_by next-now (position_in journal words)))
+  pub other : other-now ≡ after_bounds other_draws opened.other (other_asked setup (drawn_by next-now (position_in journal words)))
+  pub answered : WereAnswered (choices setup.rule) setup (earlier (position_in journal words))
   pub failed : failed-now ≡ map (failed_so_far setup journal) setup.monitors
   pub next : next-now ≡ next_in setup journal words
   pub able : IsAbleNext view-now next-now

@@ -4,7 +4,7 @@ use Rattle.event_class.specs.declared.pickable.Pickable.{Pickable}
 use Rattle.seed_draws.specs.Answers.{Source}
 use Rattle.test_world.specs.declared.monitor.Monitor.{Monitor}
 use Rattle.test_world.specs.declared.size.WorldSize.{WorldSize}
-use Rattle.walk_rules.specs.Walk.{WalkState}
+use Rattle.walk_rules.specs.State.{WalkState}
 use Rattle.run_rules.specs.declared.plan.Plan.{Plan}
 use Rattle.run_rules.specs.Setup.{Setup}
 

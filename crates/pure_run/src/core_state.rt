@@ -9,7 +9,7 @@ ghost use Rattle.run_rules.specs.Plan.{IsValidPlan};
 ghost use Rattle.run_rules.specs.Position.{world_at};
 ghost use Rattle.run_rules.specs.Setup.{IsValid};
 ghost use Rattle.seed_draws.specs.Answers.{Source, source_of};
-ghost use Rattle.walk_rules.specs.Walk.{new_walk};
+ghost use Rattle.walk_rules.specs.State.{new_walk};
 ghost use Rattle.pure_run.specs.declared.word.Word.TheVariants.{Due, Said};
 ghost use Rattle.pure_run.specs.Core.{opened_core, after_word, after_entry, position, setup_by, verdict_of, granted_of, IsAble, IsGrantedStep, last_word};
 ghost use Rattle.pure_run.specs.Kept.{IsKept};
@@ -65,8 +65,8 @@ impl<S: Draws, O: Draws> Model for Core<S, O> {
     } };
 
     ghost invariant = { λ c.
-        IsKept (setup_in (source_of S.answer S.after_answer S.bent_draws c.opened.selected) (source_of O.answer O.after_answer O.bent_draws c.opened.other) c.opened) c.journal.items c.words.items
-        × IsRunning S.after_answer O.after_answer (setup_in (source_of S.answer S.after_answer S.bent_draws c.opened.selected) (source_of O.answer O.after_answer O.bent_draws c.opened.other) c.opened) c.opened c.journal.items c.words.items c.world c.due c.view c.walk c.selected c.other c.failed.items c.next
+        IsKept (setup_in (source_of S.Draws c.opened.selected) (source_of O.Draws c.opened.other) c.opened) c.journal.items c.words.items
+        × IsRunning S.Draws O.Draws (setup_in (source_of S.Draws c.opened.selected) (source_of O.Draws c.opened.other) c.opened) c.opened c.journal.items c.words.items c.world c.due c.view c.walk c.selected c.other c.failed.items c.next
         × (c.opened.max_steps ≤ vec_capacity c.journal) };
 }
 
@@ -159,8 +159,8 @@ impl<S: Draws, O: Draws> Core<S, O> {
 
     /// The thread that takes the next step. None exactly while a word is due and where there is a verdict.
     pub fn granted(&self) -> Option<ThreadNo>
-        ensures granted { result ≡ granted_of (setup_by (source_of S.answer S.after_answer S.bent_draws) (source_of O.answer O.after_answer O.bent_draws) self.now) self.now }
-        ensures able { IfSome result (IsAble (setup_by (source_of S.answer S.after_answer S.bent_draws) (source_of O.answer O.after_answer O.bent_draws) self.now) self.now) }
+        ensures granted { result ≡ granted_of (setup_by (source_of S.Draws) (source_of O.Draws) self.now) self.now }
+        ensures able { IfSome result (IsAble (setup_by (source_of S.Draws) (source_of O.Draws) self.now) self.now) }
     {
         match self.next {
             Next::Granted(grant) => Some(grant.thread),
@@ -170,8 +170,8 @@ impl<S: Draws, O: Draws> Core<S, O> {
 
     // The event of the thread that is granted its step, and whether the step is forced.
     fn granted_step(&self, thread: ThreadNo) -> (Event, bool)
-        requires { granted_of (setup_by (source_of S.answer S.after_answer S.bent_draws) (source_of O.answer O.after_answer O.bent_draws) self.now) self.now ≡ Some thread }
-        ensures { IsGrantedStep (setup_by (source_of S.answer S.after_answer S.bent_draws) (source_of O.answer O.after_answer O.bent_draws) self.now) self.now thread result.0 result.1 }
+        requires { granted_of (setup_by (source_of S.Draws) (source_of O.Draws) self.now) self.now ≡ Some thread }
+        ensures { IsGrantedStep (setup_by (source_of S.Draws) (source_of O.Draws) self.now) self.now thread result.0 result.1 }
     {
         let Next::Granted(grant) = self.next else {
             unreachable!()
@@ -185,12 +185,12 @@ impl<S: Draws, O: Draws> Core<S, O> {
     /// Makes the step of the thread that is granted it, and answers the reply to its event. Its next word is due
     /// then.
     pub fn perform(&mut self, thread: ThreadNo) -> u64
-        requires { granted_of (setup_by (source_of S.answer S.after_answer S.bent_draws) (source_of O.answer O.after_answer O.bent_draws) self.old) self.old ≡ Some thread }
+        requires { granted_of (setup_by (source_of S.Draws) (source_of O.Draws) self.old) self.old ≡ Some thread }
         ensures entry { (event : Event) (forced : Bool) → slice_get self.old.words thread ≡ Some (Said (Some event))
-            → choice (setup_by (source_of S.answer S.after_answer S.bent_draws) (source_of O.answer O.after_answer O.bent_draws) self.old) (position self.old) ≡ Granting thread forced
+            → choice (setup_by (source_of S.Draws) (source_of O.Draws) self.old) (position self.old) ≡ Granting thread forced
             → self.new ≡ after_entry self.old (record { thread = thread; event = event; reply = result; forced = forced }) }
         ensures reply { (event : Event) → slice_get self.old.words thread ≡ Some (Said (Some event))
-            → result ≡ reply (world_at (setup_by (source_of S.answer S.after_answer S.bent_draws) (source_of O.answer O.after_answer O.bent_draws) self.old) (position self.old)) thread event }
+            → result ≡ reply (world_at (setup_by (source_of S.Draws) (source_of O.Draws) self.old) (position self.old)) thread event }
     {
         let (event, forced) = self.granted_step(thread);
         let reply = self.world.apply(thread, &event);
@@ -222,7 +222,7 @@ impl<S: Draws, O: Draws> Core<S, O> {
 impl<S: Draws, O: Draws> Core<S, O> {
     /// Why the run stops. None exactly while a word is due and where the run goes on.
     pub fn verdict(&self) -> Option<Verdict>
-        ensures { result ≡ verdict_of (setup_by (source_of S.answer S.after_answer S.bent_draws) (source_of O.answer O.after_answer O.bent_draws) self.now) self.now }
+        ensures { result ≡ verdict_of (setup_by (source_of S.Draws) (source_of O.Draws) self.now) self.now }
     {
         match self.next {
             Next::Stopped(verdict) => Some(verdict),
@@ -265,9 +265,9 @@ impl<S: Draws, O: Draws> Core<S, O> {
 
     /// The run, where there is a verdict.
     pub fn finish(self) -> Run
-        requires { IsSome (verdict_of (setup_by (source_of S.answer S.after_answer S.bent_draws) (source_of O.answer O.after_answer O.bent_draws) self) self) }
-        ensures run { (verdict : Verdict) → verdict_of (setup_by (source_of S.answer S.after_answer S.bent_draws) (source_of O.answer O.after_answer O.bent_draws) self) self ≡ Some verdict → result ≡ ran_at (setup_by (source_of S.answer S.after_answer S.bent_draws) (source_of O.answer O.after_answer O.bent_draws) self) (position self) verdict }
-        ensures kept { IsKept (setup_by (source_of S.answer S.after_answer S.bent_draws) (source_of O.answer O.after_answer O.bent_draws) self) self.journal self.words }
+        requires { IsSome (verdict_of (setup_by (source_of S.Draws) (source_of O.Draws) self) self) }
+        ensures run { (verdict : Verdict) → verdict_of (setup_by (source_of S.Draws) (source_of O.Draws) self) self ≡ Some verdict → result ≡ ran_at (setup_by (source_of S.Draws) (source_of O.Draws) self) (position self) verdict }
+        ensures kept { IsKept (setup_by (source_of S.Draws) (source_of O.Draws) self) self.journal self.words }
     {
         let Core {
             opened,

@@ -2,7 +2,8 @@ ghost use Rattle.std.specs.Prelude.{◌≡◌, ◌<◌, ◌≤◌, None, length}
 ghost use Rattle.surw_base.specs.declared.limits.TheConstants.{STEPS};
 ghost use Rattle.seed_draws.specs.Answers.{after_bounds};
 ghost use Rattle.walk_rules.specs.Walk.{AreChosenUnder};
-ghost use Rattle.pure_run.specs.Decided.{decided_unless, selected_bounds_by, other_bounds_by, waiting_after};
+ghost use Rattle.walk_rules.specs.Strategies.{pick_from};
+ghost use Rattle.pure_run.specs.Decided.{bounds_by, decided_unless, walk_then};
 ghost use Rattle.pure_run.specs.Kept.{IsAbleNext};
 
 use crate::Next;
@@ -27,10 +28,10 @@ pub(crate) fn decided<S: Draws, O: Draws>(
     requires most { max_steps ≤ STEPS }
     requires free { walk.old.waiting ≡ None }
     requires chosen { AreChosenUnder walk.old.rule view.now }
-    ensures next { result ≡ decided_unless due step max_steps walk.old view.now (S.answer selected.old) (O.answer other.old) }
-    ensures walk { walk.new ≡ waiting_after walk.old result }
-    ensures selected { selected.new ≡ after_bounds S.after_answer selected.old (selected_bounds_by walk.old view.now result) }
-    ensures other { other.new ≡ after_bounds O.after_answer other.old (other_bounds_by walk.old view.now result) }
+    ensures next { result ≡ decided_unless due step max_steps walk.old view.now (pick_from S.Draws O.Draws walk.old view.now selected.old other.old).picked }
+    ensures walk { walk.new ≡ walk_then walk.old (pick_from S.Draws O.Draws walk.old view.now selected.old other.old) result }
+    ensures selected { selected.new ≡ after_bounds S.Draws selected.old (bounds_by result (pick_from S.Draws O.Draws walk.old view.now selected.old other.old).selected_bounds) }
+    ensures other { other.new ≡ after_bounds O.Draws other.old (bounds_by result (pick_from S.Draws O.Draws walk.old view.now selected.old other.old).other_bounds) }
     ensures able { IsAbleNext view.now result }
 {
     if due > 0 {

@@ -3,6 +3,7 @@ ghost use Rattle.surw_base.specs.declared.limits.TheConstants.{THREADS};
 ghost use Rattle.run_rules.specs.Plan.{script_of, setup_of, IsValidPlan};
 ghost use Rattle.run_rules.specs.Run.{IsRun};
 ghost use Rattle.seed_draws.specs.Answers.{source_of};
+ghost use Rattle.selected_order.specs.KeepsOrder.{KeepsOrder};
 ghost use Rattle.pure_run.specs.declared.word.Word.TheVariants.{Due, Said};
 ghost use Rattle.pure_run.specs.Core.{granted_of, setup_by, verdict_of, IsAble};
 ghost use Rattle.pure_run.specs.Inline.{IsInline, said_by};
@@ -21,7 +22,8 @@ pub fn run_inline<R: Routine, S: Draws, O: Draws>(
     plan: &Plan<R, S, O>,
 ) -> Result<Run, OutOfMemory>
     requires { IsValidPlan plan.now }
-    ensures { IfOk result (IsRun (script_of R.announced R.after_reply (source_of S.answer S.after_answer S.bent_draws plan.now.selected) (source_of O.answer O.after_answer O.bent_draws plan.now.other) plan.now)) }
+    ensures run { IfOk result (IsRun (script_of R.announced R.after_reply (source_of S.Draws plan.now.selected) (source_of O.Draws plan.now.other) plan.now)) }
+    ensures order { IfOk result (KeepsOrder (script_of R.announced R.after_reply (source_of S.Draws plan.now.selected) (source_of O.Draws plan.now.other) plan.now)) }
 {
     let mut core = Core::open(alloc, plan)?;
     let mut routines = copies(alloc, plan.routines.as_slice())?;
@@ -60,11 +62,11 @@ fn make_steps<R: Routine, S: Draws, O: Draws>(
 )
     requires valid { IsValidPlan plan.now }
     requires opened { core.old.opened ≡ opened_with plan.now }
-    requires inline { IsInline R.announced R.after_reply plan.now (source_of S.answer S.after_answer S.bent_draws plan.now.selected) (source_of O.answer O.after_answer O.bent_draws plan.now.other) core.old routines.old.items }
+    requires inline { IsInline R.announced R.after_reply plan.now (source_of S.Draws plan.now.selected) (source_of O.Draws plan.now.other) core.old routines.old.items }
     requires first { length core.old.journal ≡ 0 }
     ensures opened { core.new.opened ≡ opened_with plan.now }
-    ensures inline { IsInline R.announced R.after_reply plan.now (source_of S.answer S.after_answer S.bent_draws plan.now.selected) (source_of O.answer O.after_answer O.bent_draws plan.now.other) core.new routines.new.items }
-    ensures stops { IsSome (verdict_of (setup_of (source_of S.answer S.after_answer S.bent_draws plan.now.selected) (source_of O.answer O.after_answer O.bent_draws plan.now.other) plan.now) core.new) }
+    ensures inline { IsInline R.announced R.after_reply plan.now (source_of S.Draws plan.now.selected) (source_of O.Draws plan.now.other) core.new routines.new.items }
+    ensures stops { IsSome (verdict_of (setup_of (source_of S.Draws plan.now.selected) (source_of O.Draws plan.now.other) plan.now) core.new) }
 {
     for _step in 0..plan.max_steps {
         let Some(thread) = core.granted() else {
@@ -82,11 +84,11 @@ fn make_step<R: Routine, S: Draws, O: Draws>(
     thread: ThreadNo,
 )
     requires opened { core.old.opened ≡ opened_with plan.now }
-    requires inline { IsInline R.announced R.after_reply plan.now (source_of S.answer S.after_answer S.bent_draws plan.now.selected) (source_of O.answer O.after_answer O.bent_draws plan.now.other) core.old routines.old.items }
-    requires granted { granted_of (setup_by (source_of S.answer S.after_answer S.bent_draws) (source_of O.answer O.after_answer O.bent_draws) core.old) core.old ≡ Some thread }
-    requires able { IsAble (setup_by (source_of S.answer S.after_answer S.bent_draws) (source_of O.answer O.after_answer O.bent_draws) core.old) core.old thread }
+    requires inline { IsInline R.announced R.after_reply plan.now (source_of S.Draws plan.now.selected) (source_of O.Draws plan.now.other) core.old routines.old.items }
+    requires granted { granted_of (setup_by (source_of S.Draws) (source_of O.Draws) core.old) core.old ≡ Some thread }
+    requires able { IsAble (setup_by (source_of S.Draws) (source_of O.Draws) core.old) core.old thread }
     ensures opened { core.new.opened ≡ opened_with plan.now }
-    ensures inline { IsInline R.announced R.after_reply plan.now (source_of S.answer S.after_answer S.bent_draws plan.now.selected) (source_of O.answer O.after_answer O.bent_draws plan.now.other) core.new routines.new.items }
+    ensures inline { IsInline R.announced R.after_reply plan.now (source_of S.Draws plan.now.selected) (source_of O.Draws plan.now.other) core.new routines.new.items }
     ensures steps { length core.new.journal ≡ length core.old.journal + 1 }
 {
     // The contract alone names the plan.

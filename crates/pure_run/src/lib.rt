@@ -4,6 +4,7 @@
 mod core_state;
 mod deciding;
 mod inline;
+pub mod laws;
 mod next;
 mod opened;
 mod run;
@@ -15,5 +16,5 @@ pub use inline::run_inline;
 pub use next::Next;
 pub use opened::Opened;
 pub use run::Run;
-pub use run_rules::{Entry, Plan, Verdict, laws};
+pub use run_rules::{Entry, Plan, Verdict};
 pub use word::Word;

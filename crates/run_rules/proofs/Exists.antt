@@ -9,7 +9,8 @@ use Rattle.run_rules.specs.Journal.{world_after}
 use Rattle.run_rules.specs.Legal.{IsLegal, IsLegalNext}
 use Rattle.run_rules.specs.Position.{Position, position_of}
 use Rattle.run_rules.specs.Run.{IsRunJournal}
-use Rattle.run_rules.specs.Setup.{Script, IsValid, IsBelowBounds}
+use Rattle.run_rules.specs.Setup.{Script, IsValid}
+use Rattle.seed_draws.specs.Answers.{IsSource}
 use Rattle.run_rules.specs.Verdict.{verdict_at}
 use Rattle.run_rules.proofs.Choices.{HasChoice, has-choice}
 use Rattle.run_rules.proofs.Fronts.{AtEach, each-none, each-more}
@@ -38,7 +39,7 @@ record HasNext (script : Script) (journal : List Entry) : Type 0 where
   legal : IsLegalNext script journal entry
   going : GoesOnAfter script journal entry
 
-has-next : (script : Script) (journal : List Entry) → IsValid script.setup → IsBelowBounds script.setup.selected → IsBelowBounds script.setup.other
+has-next : (script : Script) (journal : List Entry) → IsValid script.setup → IsSource script.setup.selected.answers → IsSource script.setup.other.answers
     → GoesUpTo script journal → verdict_at script.setup (position_of script journal) ≡ None → HasNext script journal
 unfolding position_of
 has-next script journal valid selected other goes none =
@@ -75,7 +76,7 @@ cases-option None = inr refl
 cases-option (Some x) = inl refl
 
 -- a journal that goes on is the beginning of a run
-run-from : (script : Script) (more : ℕ) (journal : List Entry) → IsValid script.setup → IsBelowBounds script.setup.selected → IsBelowBounds script.setup.other
+run-from : (script : Script) (more : ℕ) (journal : List Entry) → IsValid script.setup → IsSource script.setup.selected.answers → IsSource script.setup.other.answers
     → GoesUpTo script journal → length journal + more ≡ script.setup.max_steps → HasRun script
 unfolding position_of
 run-from script zero journal valid selected other goes room = elim (cases-option (verdict_at script.setup (position_of script journal))) [
@@ -93,5 +94,5 @@ run-from script (suc more) journal valid selected other goes room = elim (cases-
 ]
 
 -- a valid script with sources that keep below their bounds has a run
-pub run-exists : (script : Script) → IsValid script.setup → IsBelowBounds script.setup.selected → IsBelowBounds script.setup.other → HasRun script
+pub run-exists : (script : Script) → IsValid script.setup → IsSource script.setup.selected.answers → IsSource script.setup.other.answers → HasRun script
 run-exists script valid selected other = run-from script script.setup.max_steps [] valid selected other (goes-none script) (omega arith)

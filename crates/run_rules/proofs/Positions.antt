@@ -1,11 +1,13 @@
 -- A position with one entry more: those before it stay.
 use Rattle.std.proofs.Common.{◌≡◌, ℕ, zero, suc, ◌+◌, ◌<◌, ◌≤◌, List, [], ◌∷◌, ◌++◌, length, map, take, drop, set, Option, Some, refl, ap, sym, ◌∙◌, arith}
 use Rattle.std.proofs.Math.Seq.{take-length, drop-length}
-use Rattle.std.proofs.lemmas.List.{take-append-le, drop-append-le, length-append}
+use Rattle.std.proofs.lemmas.List.{take-append-le, drop-append-le, drop_more, length-append}
+use Rattle.std.proofs.lemmas.Option.{get_or_from_slice_get}
 use Rattle.std.proofs.lemmas.List.FromFn.{map-range_with_len_more, length-map-range_with_len}
 use Rattle.std.specs.List.{range_with_len}
 use Rattle.event_class.specs.declared.event.Event.{Event}
 use Rattle.run_rules.specs.declared.entry.Entry.{Entry}
+use Rattle.run_rules.proofs.Fronts.{IsNext, next-at}
 use Rattle.run_rules.specs.Position.{Position, words_before, position_at, earlier}
 
 words-append : (entries more : List Entry) (words : List (Option Event))
@@ -71,3 +73,17 @@ earlier-more journal entry before after word =
 pub length-earlier : (x : Position) → length (earlier x) ≡ length x.journal
 unfolding earlier
 length-earlier x = length-map-range_with_len (position_at x) 0 (length x.journal)
+
+-- the positions before a later one
+pub earlier-next : (x : Position) (k : ℕ) → k < length x.journal → earlier (position_at x (k + 1)) ≡ earlier (position_at x k) ++ position_at x k ∷ []
+unfolding position_at words_before
+earlier-next x k within =
+    let next : IsNext x.journal k = next-at x.journal k within in
+    let entry : Entry = next.item in
+    let after : List (Option Event) = words_before (drop (k + 1) x.journal) x.words in
+    let cut : drop k x.journal ≡ entry ∷ drop (k + 1) x.journal =
+    drop_more x.journal k entry within
+    ∙ ap (λ e. e ∷ drop (k + 1) x.journal) (get_or_from_slice_get x.journal k entry entry next.there) in
+    let words : words_before (drop k x.journal) x.words ≡ set after entry.thread (Some entry.event) = ap (λ es. words_before es x.words) cut in
+    ap (λ journal. earlier (record { journal = journal; words = after })) next.cut
+    ∙ earlier-more (take k x.journal) entry (words_before (drop k x.journal) x.words) after (sym words)

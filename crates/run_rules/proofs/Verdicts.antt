@@ -22,12 +22,12 @@ none-first verdict rest none = ap (λ v. first_of (v ∷ rest)) none
 
 -- where there is no verdict each part is none
 pub verdict-none : (setup : Setup) (x : Position) → verdict_at setup x ≡ None
-    → (wrong_count setup.rule setup x ≡ None) × (ended x ≡ None) × (step_limit setup x ≡ None) × (deadlock setup x ≡ None)
+    → (wrong_count setup x ≡ None) × (ended x ≡ None) × (step_limit setup x ≡ None) × (deadlock setup x ≡ None)
     × (refused (length x.journal) (choice setup x) ≡ None)
 unfolding verdict_at
 verdict-none setup x none =
     let last : List (Option Verdict) = refused (length x.journal) (choice setup x) ∷ [] in
-    let counted = first-none (wrong_count setup.rule setup x) (ended x ∷ step_limit setup x ∷ deadlock setup x ∷ last) none in
+    let counted = first-none (wrong_count setup x) (ended x ∷ step_limit setup x ∷ deadlock setup x ∷ last) none in
     let more = first-none (ended x) (step_limit setup x ∷ deadlock setup x ∷ last) counted.1 in
     let short = first-none (step_limit setup x) (deadlock setup x ∷ last) more.1 in
     let able = first-none (deadlock setup x) last short.1 in
@@ -35,12 +35,12 @@ verdict-none setup x none =
     (counted.0, more.0, short.0, able.0, granted.0)
 
 -- where each part is none there is no verdict
-pub none-verdict : (setup : Setup) (x : Position) → wrong_count setup.rule setup x ≡ None → ended x ≡ None → step_limit setup x ≡ None → deadlock setup x ≡ None
+pub none-verdict : (setup : Setup) (x : Position) → wrong_count setup x ≡ None → ended x ≡ None → step_limit setup x ≡ None → deadlock setup x ≡ None
     → refused (length x.journal) (choice setup x) ≡ None → verdict_at setup x ≡ None
 unfolding verdict_at
 none-verdict setup x counted more short able granted =
     let last : List (Option Verdict) = refused (length x.journal) (choice setup x) ∷ [] in
-    none-first (wrong_count setup.rule setup x) (ended x ∷ step_limit setup x ∷ deadlock setup x ∷ last) counted
+    none-first (wrong_count setup x) (ended x ∷ step_limit setup x ∷ deadlock setup x ∷ last) counted
     ∙ none-first (ended x) (step_limit setup x ∷ deadlock setup x ∷ last) more
     ∙ none-first (step_limit setup x) (deadlock setup x ∷ last) short
     ∙ none-first (deadlock setup x) last able

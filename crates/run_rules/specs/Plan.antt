@@ -2,7 +2,7 @@
 use Rattle.std.specs.Prelude.{◌≡◌, ℕ, length, Option}
 use Rattle.event_class.specs.declared.event.Event.{Event}
 use Rattle.seed_draws.specs.Answers.{Source}
-use Rattle.walk_rules.specs.Walk.{new_walk}
+use Rattle.walk_rules.specs.State.{new_walk}
 use Rattle.run_rules.specs.declared.plan.Plan.{Plan}
 use Rattle.run_rules.specs.Setup.{Setup, Script, IsValid}
 use Rattle.run_rules.specs.Told.{routines_say}

@@ -43,7 +43,7 @@ drawn setup x = earlier x ++ (if is_drawn (verdict_at setup x) then x ∷ [] els
 -- how many draws were bent by then; it stays at the greatest number
 abbrev pub bent_at : Setup → Position → ℕ
 bent_at setup x =
-    min (setup.selected.bent (selected_asked setup.rule setup (drawn setup x)) + setup.other.bent (other_asked setup.rule setup (drawn setup x))) max_word
+    min (setup.selected.bent (selected_asked setup (drawn setup x)) + setup.other.bent (other_asked setup (drawn setup x))) max_word
 
 -- what a run is seen as
 pub record Ran : Type 0 where

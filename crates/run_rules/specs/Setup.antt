@@ -1,5 +1,5 @@
 -- What a run is made of.
-use Rattle.std.specs.Prelude.{◌≡◌, ℕ, ◌≤◌, ◌<◌, List, [], ◌∷◌, All, length, sum, slice_index, Option, IfOk}
+use Rattle.std.specs.Prelude.{◌≡◌, ℕ, ◌≤◌, List, [], ◌∷◌, All, length, sum, Option, IsTrue}
 use Rattle.surw_base.specs.declared.limits.TheConstants.{THREADS, STEPS}
 use Rattle.event_class.specs.declared.event.Event.{Event}
 use Rattle.event_class.specs.declared.pickable.Pickable.{Pickable}
@@ -10,7 +10,7 @@ use Rattle.test_world.specs.declared.size.WorldSize.{WorldSize}
 use Rattle.test_world.specs.Monitor.{CanWatch}
 use Rattle.test_world.specs.Size.{IsWithinLimits, HasNoDevices}
 use Rattle.walk_rules.specs.declared.rule.Rule.{Rule}
-use Rattle.walk_rules.specs.declared.rule.Rule.TheVariants.{Urw, Plain}
+use Rattle.walk_rules.specs.Strategies.{wants_every}
 
 -- all but the routines
 pub record Setup : Type 0 where
@@ -29,10 +29,9 @@ pub record Script : Type 0 where
   pub setup : Setup
   pub says : ℕ → List ℕ → Option Event
 
--- under URW every event is selected
+-- every event is selected under a rule that wants it so
 abbrev pub SelectsAllUnder : Rule → List Pickable → Type 0
-SelectsAllUnder Urw selection = selection ≡ Every ∷ []
-SelectsAllUnder Plain selection = Unit {0}
+SelectsAllUnder rule selection = IsTrue (wants_every rule) → selection ≡ Every ∷ []
 
 -- a setup that a run can be made of
 pub record IsValid (setup : Setup) : Type 0 where
@@ -46,8 +45,3 @@ pub record IsValid (setup : Setup) : Type 0 where
   pub monitors : length setup.monitors ≤ 16
   pub watched : All (CanWatch setup.size) setup.monitors
   pub every : SelectsAllUnder setup.rule setup.selection
-
--- a source whose answers are below their bounds
-abbrev pub IsBelowBounds : Source → Type 0
-IsBelowBounds source = (bounds : List ℕ) → ((k : ℕ) → k < length bounds → 1 ≤ slice_index bounds k)
-    → IfOk (source.answers bounds) (λ draws. (k : ℕ) → k < length bounds → slice_index draws k < slice_index bounds k)

@@ -1,23 +1,22 @@
 -- The URW choice at a position, from the bag written out and the answers from the first bound on.
-use Rattle.std.specs.Prelude.{ℕ, List, [], ◌∷◌, ◌++◌, length, map}
+use Rattle.std.specs.Prelude.{ℕ, List, [], ◌∷◌}
 use Rattle.walk_rules.specs.declared.picked.Picked.{Picked}
 use Rattle.walk_rules.specs.Granted.{granted_at}
+use Rattle.walk_rules.specs.State.{new_memory}
 use Rattle.walk_rules.specs.Urw.{urw_bound, urw_thread}
-use Rattle.run_rules.specs.Answer.{answer_at}
-use Rattle.run_rules.specs.Made.{numbers_left}
-use Rattle.run_rules.specs.Position.{Position, earlier, seen_at}
+use Rattle.run_rules.specs.Asked.{answers_at}
+use Rattle.run_rules.specs.Choices.{Choices}
+use Rattle.run_rules.specs.Left.{left_at}
+use Rattle.run_rules.specs.Position.{Position, seen_at}
 use Rattle.run_rules.specs.Setup.{Setup}
 
--- the numbers left at a position
-abbrev pub left_at : Setup → Position → List ℕ
-left_at setup x = numbers_left setup.selection setup.counts x.journal
-
 -- the size of the bag kept to the able threads
-unfoldable pub urw_bound_at : Setup → Position → ℕ
-urw_bound_at setup x = urw_bound (left_at setup x) (seen_at setup x)
+abbrev pub urw_bounds_at : Setup → Position → List ℕ
+urw_bounds_at setup x = urw_bound (left_at setup x) (seen_at setup x) ∷ []
 
--- the selected source answers the bounds at all positions up to this one; the last answer picks from the bag
+-- the selected source answers the bounds at all positions up to this one; its answer here picks from the bag
 unfoldable pub urw_choice : Setup → Position → Picked
-urw_choice setup x =
-    granted_at (urw_thread (left_at setup x) (seen_at setup x))
-    (answer_at (setup.selected.answers (map (urw_bound_at setup) (earlier x ++ x ∷ []))) (length x.journal))
+urw_choice setup x = granted_at (urw_thread (left_at setup x) (seen_at setup x)) (answers_at setup.selected.answers (urw_bounds_at setup) x)
+
+abbrev pub urw_choices : Choices
+urw_choices = record { selected_at = urw_bounds_at; other_at = λ setup x. []; choice_at = urw_choice; memory_at = λ setup x. new_memory }

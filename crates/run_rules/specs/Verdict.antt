@@ -7,9 +7,8 @@ use Rattle.event_class.specs.declared.pickable.Pickable.{Pickable}
 use Rattle.event_class.specs.Selection.{has}
 use Rattle.walk_rules.specs.declared.picked.Picked.{Picked}
 use Rattle.walk_rules.specs.declared.picked.Picked.TheVariants.{Grant, Stop}
-use Rattle.walk_rules.specs.declared.rule.Rule.{Rule}
-use Rattle.walk_rules.specs.declared.rule.Rule.TheVariants.{Urw, Plain}
 use Rattle.walk_rules.specs.Seen.{is_able}
+use Rattle.walk_rules.specs.Strategies.{counts_down}
 use Rattle.run_rules.specs.declared.verdict.Verdict.{Verdict}
 use Rattle.run_rules.specs.declared.verdict.Verdict.TheVariants.{Ended, Deadlock, WrongCount, Draw, StepLimit}
 use Rattle.run_rules.specs.Choice.{choice}
@@ -28,12 +27,13 @@ first_miscounted setup x =
     find (λ thread. is_miscounted setup.selection (slice_index setup.counts thread) (events_made setup.selection x.journal thread) (slice_index_or x.words thread None))
     (range_with_len 0 (length x.words))
 
--- a wrong count, which URW alone looks at
-abbrev pub wrong_count : Rule → Setup → Position → Option Verdict
-wrong_count Urw setup x =
-    option_map (λ thread. WrongCount (length x.journal) thread (slice_index setup.counts thread) (events_made setup.selection x.journal thread))
-    (first_miscounted setup x)
-wrong_count Plain setup x = None
+-- a wrong count, where the rule takes selected events from the numbers left
+abbrev pub wrong_count : Setup → Position → Option Verdict
+wrong_count setup x =
+    if counts_down setup.rule
+    then option_map (λ thread. WrongCount (length x.journal) thread (slice_index setup.counts thread) (events_made setup.selection x.journal thread))
+        (first_miscounted setup x)
+    else None
 
 -- no thread has a word
 abbrev pub ended : Position → Option Verdict
@@ -62,7 +62,7 @@ first_of (Some verdict ∷ rest) = Some verdict
 unfoldable pub verdict_at : Setup → Position → Option Verdict
 verdict_at setup x =
     first_of
-    (wrong_count setup.rule setup x
+    (wrong_count setup x
     ∷ ended x
     ∷ step_limit setup x
     ∷ deadlock setup x

@@ -12,7 +12,7 @@ use seed_draws::Draws;
 /// Exactly one journal is the run of a valid plan.
 pub fn one_run<R: Routine, S: Draws, O: Draws>(plan: &Plan<R, S, O>)
     requires { IsValidPlan plan.now }
-    ensures { OneRun (script_of R.announced R.after_reply (source_of S.answer S.after_answer S.bent_draws plan.now.selected) (source_of O.answer O.after_answer O.bent_draws plan.now.other) plan.now) }
+    ensures { OneRun (script_of R.announced R.after_reply (source_of S.Draws plan.now.selected) (source_of O.Draws plan.now.other) plan.now) }
 {
     let _ = plan;
 }

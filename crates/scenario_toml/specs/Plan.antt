@@ -9,7 +9,7 @@ use Rattle.seed_draws.specs.declared.any_draws.AnyDraws.TheVariants.{Strict, Loo
 use Rattle.seed_draws.specs.Tape.{Tape}
 use Rattle.walk_rules.specs.declared.rule.Rule.{Rule}
 use Rattle.walk_rules.specs.declared.rule.Rule.TheVariants as rule
-use Rattle.walk_rules.specs.Walk.{new_walk}
+use Rattle.walk_rules.specs.State.{new_walk}
 use Rattle.scenario_toml.specs.declared.choice.Choice.{Choice}
 use Rattle.scenario_toml.specs.declared.strategy.Strategy.{Strategy}
 use Rattle.scenario_toml.specs.declared.strategy.Strategy.TheVariants.{Urw, Plain}

@@ -14,7 +14,7 @@ use Rattle.scenario_toml.specs.declared.strategy.Strategy.TheVariants.{Urw, Plai
 use Rattle.scenario_toml.specs.Plan.{IsPlanOf}
 use Rattle.scenario_toml.specs.State.{ScenarioState}
 use Rattle.seed_draws.specs.declared.any_draws.AnyDraws.{AnyDraws}
-use Rattle.seed_draws.specs.AnyDraws as draws
+use Rattle.seed_draws.specs.AnyDraws.{any_draws}
 use Rattle.seed_draws.specs.Answers.{Source, source_of}
 use Rattle.surw_cli.specs.declared.status.Status.{Status}
 use Rattle.surw_cli.specs.declared.status.Status.TheVariants.{Done, Failing, WrongCount, Asked, StepLimit, Draw}
@@ -30,7 +30,7 @@ no_choice = record { strategy = None; seed = None; depth = None }
 
 -- a source of draws of any kind, by its answers
 abbrev pub any_source : AnyDraws → Source
-any_source source = source_of draws.any_answer draws.any_after draws.any_bent source
+any_source source = source_of any_draws source
 
 -- the run of the scenario's plan
 pub record IsRunOf (scenario : ScenarioState) (ran : Ran) : Type 0 where

@@ -1,3 +1,17 @@
 pub mod Able
+pub mod Changing
+pub mod Drawn
+pub mod Falling
+pub mod Grants
+pub mod Ordered
+pub mod PctDrawn
+pub mod PctLaws
+pub mod PctValues
+pub mod PlainLaws
+pub mod Searched
+pub mod StrategyLaws
+pub mod SurwLaws
+pub mod SurwValues
 pub mod Told
+pub mod UrwLaws
 pub mod Wrong

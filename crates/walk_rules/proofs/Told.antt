@@ -1,8 +1,13 @@
 -- What holds of a walk after a step is told.
-use Rattle.std.proofs.Common.{◌≡◌, ℕ, ◌+◌, ◌-◌, ◌<◌, ◌≤◌, List, length, get_or, set, IsSome, None, subst, sym, inl, inr, arith}
+use Rattle.std.proofs.Common.{◌≡◌, ℕ, ◌+◌, ◌-◌, ◌<◌, ◌≤◌, List, length, get_or, set, IsSome, Option, None, Some, Bool, true, false, cond, not, ◌&&◌, refl, ap, ◌∙◌, subst, sym, inl, inr, arith}
 use Rattle.std.proofs.lemmas.Bool.{false≢true, cases_lt, cases_eq}
 use Rattle.std.proofs.lemmas.List.{length-set, get_or_past, get_or-set_same, get_or-set_other}
 use Rattle.draw_split.specs.Bag.{less_one}
+use Rattle.walk_rules.specs.declared.picked.Grant.{Grant}
+use Rattle.walk_rules.specs.declared.rule.Rule.{Rule}
+use Rattle.walk_rules.specs.declared.rule.Rule.TheVariants.{Urw, Surw, Pct, Plain}
+use Rattle.walk_rules.specs.Ranked.{Ranked}
+use Rattle.walk_rules.specs.UnderPct.{AreReady, IsUnderPct, reached}
 use Rattle.walk_rules.specs.WalkInside.{IsWalk}
 use Rattle.walk_rules.specs.declared.walk.Walk.TheInside.{Inside}
 
@@ -26,25 +31,46 @@ less_one-le left thread other =
       | inr differ ↦ omega (arith, get_or-set_other left thread other less 0 differ)
     ]
 
+-- a step that is told reaches no further than its grant
+pub reached-waiting : (steps : ℕ) (waiting : Option Grant) → IsSome waiting → reached steps waiting ≡ steps + 1
+reached-waiting steps None waits = absurd (false≢true waits)
+reached-waiting steps (Some grant) waits = refl
+
+pct-told : (rule : Rule) (threads before now : ℕ) (intended later : Option ℕ) (ranks : Option Ranked) → before ≡ now → (intended ≡ None → later ≡ None) → IsUnderPct rule threads before intended ranks
+    → IsUnderPct rule threads now later ranks
+pct-told Urw threads before now intended later ranks same idle is = is
+pct-told Surw threads before now intended later ranks same idle is = is
+pct-told Plain threads before now intended later ranks same idle is = is
+pct-told (Pct depth) threads before now intended later ranks same idle is = (is.0, idle is.1, subst (λ n. AreReady threads n ranks) same is.2)
+
+cond-same : (b : Bool) → cond {A = Option ℕ} b None None ≡ None
+cond-same true = refl
+cond-same false = refl
+
+-- whatever a step was, no thread is intended after it where none was before
+pub idle-after : (chosen forced : Bool) (intended : Option ℕ) → intended ≡ None → cond (chosen && not forced) None intended ≡ None
+idle-after chosen forced intended none = ap (cond (chosen && not forced) None) none ∙ cond-same (chosen && not forced)
+
 -- where a step is told and the numbers left stay as they were
-pub told-same : (walk : Inside) (steps : ℕ) → steps ≤ walk.steps + 1 → IsWalk walk → IsSome walk.waiting
-    → IsWalk record { rule = walk.rule; counts = walk.counts; steps = steps; left = walk.left; waiting = None }
-told-same walk steps more is waits =
+pub told-same : (walk : Inside) (intended : Option ℕ) (steps : ℕ) → steps ≡ walk.steps + 1 → (walk.intended ≡ None → intended ≡ None) → IsWalk walk → IsSome walk.waiting
+    → IsWalk record { rule = walk.rule; counts = walk.counts; steps = steps; left = walk.left; intended = intended; ranks = walk.ranks; waiting = None }
+told-same walk intended steps more idle is waits =
     let room = is.room waits in
-    record { few = is.few; each = is.each; within = is.within; told = omega arith; room = λ none. absurd (false≢true none) }
+    record { few = is.few; each = is.each; within = is.within; told = omega arith; room = λ none. absurd (false≢true none); pct = pct-told walk.rule (length walk.counts) (reached walk.steps walk.waiting) steps walk.intended intended walk.ranks (reached-waiting walk.steps walk.waiting waits ∙ sym more) idle is.pct }
 
 -- and where they are one less for a thread
-pub told-less : (walk : Inside) (steps thread : ℕ) (left : List ℕ) → steps ≤ walk.steps + 1 → left ≡ less_one walk.left thread
+pub told-less : (walk : Inside) (intended : Option ℕ) (steps thread : ℕ) (left : List ℕ) → steps ≡ walk.steps + 1 → (walk.intended ≡ None → intended ≡ None) → left ≡ less_one walk.left thread
     → IsWalk walk → IsSome walk.waiting
-    → IsWalk record { rule = walk.rule; counts = walk.counts; steps = steps; left = left; waiting = None }
-told-less walk steps thread left more less is waits =
+    → IsWalk record { rule = walk.rule; counts = walk.counts; steps = steps; left = left; intended = intended; ranks = walk.ranks; waiting = None }
+told-less walk intended steps thread left more idle less is waits =
     let room = is.room waits in
-    let kept : IsWalk record { rule = walk.rule; counts = walk.counts; steps = steps; left = less_one walk.left thread; waiting = None } =
+    let kept : IsWalk record { rule = walk.rule; counts = walk.counts; steps = steps; left = less_one walk.left thread; intended = intended; ranks = walk.ranks; waiting = None } =
     record {
       few = is.few;
       each = omega (arith, length-less_one walk.left thread, is.each);
       within = λ other. omega (arith, less_one-le walk.left thread other, is.within other);
       told = omega arith;
       room = λ none. absurd (false≢true none);
+      pct = pct-told walk.rule (length walk.counts) (reached walk.steps walk.waiting) steps walk.intended intended walk.ranks (reached-waiting walk.steps walk.waiting waits ∙ sym more) idle is.pct;
     } in
-    subst (λ (l : List ℕ). IsWalk record { rule = walk.rule; counts = walk.counts; steps = steps; left = l; waiting = None }) (sym less) kept
+    subst (λ (l : List ℕ). IsWalk record { rule = walk.rule; counts = walk.counts; steps = steps; left = l; intended = intended; ranks = walk.ranks; waiting = None }) (sym less) kept

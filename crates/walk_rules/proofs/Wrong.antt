@@ -6,9 +6,7 @@ use Rattle.std.specs.List.{All, find, range_with_len}
 use Rattle.std.specs.Option.{option_map}
 use Rattle.walk_rules.specs.Seen.{is_able, is_announcing, is_chosen, seen_of, able_threads, kept_to_able}
 use Rattle.walk_rules.specs.Urw.{urw_bound}
-use Rattle.walk_rules.specs.Walk.{is_wrong, first_wrong, wrong_by, counts_down, AreChosenUnder}
-use Rattle.walk_rules.specs.declared.rule.Rule.{Rule}
-use Rattle.walk_rules.specs.declared.rule.Rule.TheVariants.{Urw, Plain}
+use Rattle.walk_rules.specs.Walk.{is_wrong, first_wrong, wrong_by, AreChosen}
 use Rattle.walk_rules.specs.declared.seen.Seen.{Seen}
 use Rattle.walk_rules.specs.declared.seen.Seen.TheVariants.{Over, Held, Able}
 use Rattle.walk_rules.proofs.Able.{able-place, able-place-within, kept-positive}
@@ -111,20 +109,19 @@ none-mapped : {A B : Type 0} (f : A → B) (found : Option A) → option_map f f
 none-mapped f (Some x) same = cc
 none-mapped f None same = refl
 
-right-first : (counts left : List ℕ) (view : List Seen) → wrong_by Urw counts left view ≡ None → first_wrong left view ≡ None
+pub right-first : (counts left : List ℕ) (view : List Seen) → wrong_by true counts left view ≡ None → first_wrong left view ≡ None
 right-first counts left view right =
     let named : ℕ → ℕ × ℕ × ℕ = λ thread. (thread, get_or counts thread 0, get_or counts thread 0 - get_or left thread 0) in
     none-mapped named (first_wrong left view) right
 
 -- the bound of a pick under URW is at least 1
-pub urw-some : (rule : Rule) (counts left : List ℕ) (view : List Seen) → rule ≡ Urw → 0 < length (able_threads view)
-    → wrong_by rule counts left view ≡ None → AreChosenUnder rule view → 0 < urw_bound left view
-urw-some Urw counts left view is some right chosen = kept-somewhere left view some (right-first counts left view right) chosen
-urw-some Plain counts left view is some right chosen = cc
+pub urw-some : (counts left : List ℕ) (view : List Seen) → 0 < length (able_threads view) → wrong_by true counts left view ≡ None → AreChosen view
+    → 0 < urw_bound left view
+urw-some counts left view some right chosen = kept-somewhere left view some (right-first counts left view right) chosen
 
 -- where no thread is wrong, one that announces a selected event has a number left
-pub chosen-left : (rule : Rule) (counts left : List ℕ) (view : List Seen) (thread : ℕ) → wrong_by rule counts left view ≡ None
-    → IsTrue (counts_down rule) → thread < length view → IsTrue (is_chosen (seen_of view thread)) → 0 < get_or left thread 0
-chosen-left Urw counts left view thread right counts_it within chosen =
+pub chosen-left : (counting : Bool) (counts left : List ℕ) (view : List Seen) (thread : ℕ) → wrong_by counting counts left view ≡ None
+    → IsTrue counting → thread < length view → IsTrue (is_chosen (seen_of view thread)) → 0 < get_or left thread 0
+chosen-left true counts left view thread right counts_it within chosen =
     left-positive (get_or left thread 0) (seen_of view thread) chosen (none-wrong left view (right-first counts left view right) thread within)
-chosen-left Plain counts left view thread right counts_it within chosen = absurd (false≢true counts_it)
+chosen-left false counts left view thread right counts_it within chosen = absurd (false≢true counts_it)

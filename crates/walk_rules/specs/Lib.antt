@@ -1,7 +1,16 @@
 pub mod Announced
 pub mod Granted
+pub mod Pct
+pub mod PctDraws
 pub mod Plain
+pub mod Ranked
+pub mod Ranks
 pub mod Seen
+pub mod State
+pub mod Strategies
+pub mod Strategy
+pub mod Surw
+pub mod UnderPct
 pub mod Urw
 pub mod Walk
 pub mod WalkInside

@@ -1,62 +1,40 @@
--- What a walk is seen as, and one step of it.
-use Rattle.std.specs.Prelude.{ℕ, Result, ◌+◌, ◌-◌, ◌==◌, ◌&&◌, ltb, Bool, true, false, List, [], ◌∷◌, All, length, slice_index, Option, None, Some, if◌then◌else◌, IsTrue}
+-- A walk after a pick and after a step, and the counts that are wrong.
+use Rattle.std.specs.Prelude.{◌≡◌, ℕ, ◌+◌, ◌-◌, ◌<◌, ◌≤◌, ◌==◌, ◌&&◌, not, ltb, Bool, true, false, List, [], ◌∷◌, All, length, slice_index, Option, None, Some, if◌then◌else◌, IsOk, IsTrue}
 use Rattle.std.specs.List.{find, range_with_len}
 use Rattle.std.specs.Option.{option_map}
 use Rattle.draw_split.specs.Bag.{less_one}
-use Rattle.seed_draws.specs.declared.draw_fault.DrawFault.{DrawFault}
-use Rattle.walk_rules.specs.declared.picked.Grant.{Grant}
+use Rattle.seed_draws.specs.Answers.{Answering, IsSource}
 use Rattle.walk_rules.specs.declared.picked.Picked.{Picked}
 use Rattle.walk_rules.specs.declared.picked.Picked.TheVariants as picked
 use Rattle.walk_rules.specs.declared.rule.Rule.{Rule}
-use Rattle.walk_rules.specs.declared.rule.Rule.TheVariants.{Urw, Plain}
+use Rattle.walk_rules.specs.declared.rule.Rule.TheVariants.{Pct}
 use Rattle.walk_rules.specs.declared.seen.Seen.{Seen}
 use Rattle.walk_rules.specs.declared.seen.Seen.TheVariants.{Over, Held, Able}
-use Rattle.walk_rules.specs.Plain.{plain_bound, plain_picked}
-use Rattle.walk_rules.specs.Seen.{is_able, is_announcing, is_chosen, seen_of}
-use Rattle.walk_rules.specs.Urw.{urw_bound, urw_picked}
+use Rattle.walk_rules.specs.Seen.{able_threads, is_able, is_announcing, is_chosen, seen_of}
+use Rattle.walk_rules.specs.State.{Memory, WalkState}
+use Rattle.walk_rules.specs.Strategies.{counts_down, wants_every}
+use Rattle.walk_rules.specs.Strategy.{OnePick, Strategy}
 
--- the rule and the counts that it is made of, how many steps it was told, the numbers left, and the grant that
--- waits for its step
-pub record WalkState : Type 0 where
-  pub rule : Rule
-  pub counts : List ℕ
-  pub steps : ℕ
-  pub left : List ℕ
-  pub waiting : Option Grant
-
--- a walk that was told nothing
-abbrev pub new_walk : Rule → List ℕ → WalkState
-new_walk rule counts = record { rule = rule; counts = counts; steps = 0; left = counts; waiting = None }
-
--- whether a rule takes from the numbers left
-abbrev pub counts_down : Rule → Bool
-counts_down Urw = true
-counts_down Plain = false
-
--- the bounds that one pick asks of the selected source
-abbrev pub selected_bounds : Rule → List ℕ → List Seen → List ℕ
-selected_bounds Urw left view = urw_bound left view ∷ []
-selected_bounds Plain left view = []
-
--- the bounds that one pick asks of the other source
-abbrev pub other_bounds : Rule → List ℕ → List Seen → List ℕ
-other_bounds Urw left view = []
-other_bounds Plain left view = plain_bound view ∷ []
-
--- what a rule picks, by the answers of the two sources
-abbrev pub picked_by : Rule → List ℕ → List Seen → (ℕ → Result ℕ DrawFault) → (ℕ → Result ℕ DrawFault) → Picked
-picked_by Urw left view selected other = urw_picked left view selected
-picked_by Plain left view selected other = plain_picked view other
+abbrev pub after_picked : WalkState → Memory → Picked → WalkState
+after_picked walk memory (picked.Grant thread forced) = record walk { memory = memory; waiting = Some (record { thread = thread; forced = forced }) }
+after_picked walk memory (picked.Stop fault) = walk
 
 -- the walk after a pick: a grant waits for its step, and a refusal leaves the walk as it was
-abbrev pub after_pick : WalkState → Picked → WalkState
-after_pick walk (picked.Grant thread forced) = record walk { waiting = Some (record { thread = thread; forced = forced }) }
-after_pick walk (picked.Stop fault) = walk
+abbrev pub after_pick : WalkState → OnePick → WalkState
+after_pick walk one = after_picked walk one.memory one.picked
 
--- the walk after the step of a thread whose event is selected or not
-abbrev pub after_done : WalkState → ℕ → Bool → WalkState
-after_done walk thread chosen =
-    record walk { steps = walk.steps + 1; waiting = None; left = if counts_down walk.rule && chosen then less_one walk.left thread else walk.left }
+-- what is kept after a step: a selected step that isn't forced ends the intention
+abbrev pub kept_after : Memory → Bool → Bool → Memory
+kept_after memory chosen forced = record memory { intended = if chosen && not forced then None else memory.intended }
+
+-- the walk after the step of a thread, whose event is selected or not, and which is forced or not
+abbrev pub after_done : WalkState → ℕ → Bool → Bool → WalkState
+after_done walk thread chosen forced = record walk {
+  steps = walk.steps + 1;
+  left = if counts_down walk.rule && chosen then less_one walk.left thread else walk.left;
+  memory = kept_after walk.memory chosen forced;
+  waiting = None;
+}
 
 -- whether a thread has ended with numbers left, or announces a selected event with none left
 abbrev pub is_wrong : ℕ → Seen → Bool
@@ -68,18 +46,44 @@ is_wrong left (Able chosen) = chosen && (left == 0)
 abbrev pub first_wrong : List ℕ → List Seen → Option ℕ
 first_wrong left view = find (λ thread. is_wrong (slice_index left thread) (seen_of view thread)) (range_with_len 0 (length view))
 
--- with its count and the number made
-abbrev pub wrong_by : Rule → List ℕ → List ℕ → List Seen → Option (ℕ × ℕ × ℕ)
-wrong_by Urw counts left view =
-    option_map (λ thread. (thread, slice_index counts thread, slice_index counts thread - slice_index left thread)) (first_wrong left view)
-wrong_by Plain counts left view = None
+-- where selected events are taken from the numbers left: the least such thread, with its count and the number made
+abbrev pub wrong_by : Bool → List ℕ → List ℕ → List Seen → Option (ℕ × ℕ × ℕ)
+wrong_by counting counts left view =
+    if counting
+    then option_map (λ thread. (thread, slice_index counts thread, slice_index counts thread - slice_index left thread)) (first_wrong left view)
+    else None
 
--- under URW every event is selected
+abbrev pub wrong_of : WalkState → List Seen → Option (ℕ × ℕ × ℕ)
+wrong_of walk view = wrong_by (counts_down walk.rule) walk.counts walk.left view
+
+-- each event that is announced is selected
+abbrev pub AreChosen : List Seen → Type 0
+AreChosen view = All (λ seen. IsTrue (is_announcing seen) → IsTrue (is_chosen seen)) view
+
+-- under a rule that wants every event selected
 abbrev pub AreChosenUnder : Rule → List Seen → Type 0
-AreChosenUnder Urw view = All (λ seen. IsTrue (is_announcing seen) → IsTrue (is_chosen seen)) view
-AreChosenUnder Plain view = Unit {0}
+AreChosenUnder rule view = IsTrue (wants_every rule) → AreChosen view
 
 -- a granted thread is able
 abbrev pub GrantsAble : List Seen → Picked → Type 0
 GrantsAble view (picked.Grant thread forced) = IsTrue (is_able (seen_of view thread))
 GrantsAble view (picked.Stop fault) = Unit {0}
+
+-- a strategy can pick: some thread is able, no count is wrong, and every event is selected where that is wanted
+pub record CanPick (strategy : Strategy) (walk : WalkState) (view : List Seen) : Type 0 where
+  pub able : 0 < length (able_threads view)
+  pub right : wrong_by strategy.counts_down walk.counts walk.left view ≡ None
+  pub chosen : IsTrue strategy.wants_every → AreChosen view
+
+-- what holds of every strategy: it grants a step only where all that it asked was answered, and then to an able thread
+pub record IsStrategy (strategy : Strategy) : Type 0 where
+  pub answered : (walk : WalkState) (view : List Seen) (selected other : Answering) (thread : ℕ) (forced : Bool) → IsSource selected → IsSource other
+      → (strategy.pick walk view selected other).picked ≡ picked.Grant thread forced
+      → IsOk (selected (strategy.pick walk view selected other).selected_bounds) × IsOk (other (strategy.pick walk view selected other).other_bounds)
+  pub able : (walk : WalkState) (view : List Seen) (selected other : Answering) → IsSource selected → IsSource other → CanPick strategy walk view
+      → GrantsAble view (strategy.pick walk view selected other).picked
+
+-- the depth of PCT is from 1 to 16
+abbrev pub IsDepth : Rule → Type 0
+IsDepth (Pct depth) = (1 ≤ depth) × (depth ≤ 16)
+IsDepth rule = Unit {0}

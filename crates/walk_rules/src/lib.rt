@@ -3,10 +3,13 @@
 
 mod announced;
 mod asked;
+mod pct;
 mod picked;
 mod plain;
+mod ranks;
 mod rule;
 mod seen;
+mod surw;
 mod urw;
 mod walk;
 

@@ -1,5 +1,5 @@
 ghost use Rattle.std.specs.Prelude.{◌≡◌, IfOk};
-ghost use Rattle.walk_rules.specs.Walk.{counts_down};
+ghost use Rattle.walk_rules.specs.Strategies.{counts_down};
 
 use std::alloc::Global;
 use surw_base::OutOfMemory;
@@ -9,6 +9,14 @@ use surw_base::OutOfMemory;
 pub enum Rule {
     /// Every event is selected, and the next thread is picked with a weight equal to its number of events left.
     Urw,
+    /// A thread is intended with a weight equal to its number of selected events left, until it makes one; an other
+    /// draw picks among the threads whose event isn't selected and the intended one.
+    Surw,
+    /// Each thread has a drawn priority, and the highest that can go on is picked; at drawn steps it gets a low one.
+    Pct {
+        /// One more than there are such steps, from 1 to 16.
+        depth: u8,
+    },
     /// Each thread that can go on is picked with equal weight.
     Plain,
 }
@@ -20,6 +28,8 @@ impl Rule {
     {
         match self {
             Rule::Urw => Ok(Rule::Urw),
+            Rule::Surw => Ok(Rule::Surw),
+            Rule::Pct { depth } => Ok(Rule::Pct { depth: *depth }),
             Rule::Plain => Ok(Rule::Plain),
         }
     }
@@ -29,8 +39,8 @@ impl Rule {
         ensures { result ≡ counts_down self.now }
     {
         match self {
-            Rule::Urw => true,
-            Rule::Plain => false,
+            Rule::Urw | Rule::Surw => true,
+            Rule::Pct { depth: _ } | Rule::Plain => false,
         }
     }
 }

@@ -1,7 +1,9 @@
-ghost use Rattle.std.specs.Prelude.{◌≡◌, ◌<◌, ◌≤◌, length, sum};
+ghost use Rattle.std.specs.Prelude.{◌≡◌, ◌<◌, ◌≤◌, ◌∷◌, [], length, sum};
 ghost use Rattle.surw_base.specs.declared.limits.TheConstants.{THREADS, STEPS};
+ghost use Rattle.seed_draws.specs.Answers.{after_bounds, answers};
+ghost use Rattle.walk_rules.specs.Granted.{granted_at};
 ghost use Rattle.walk_rules.specs.Seen.{kept_to_able};
-ghost use Rattle.walk_rules.specs.Urw.{urw_bound, urw_picked};
+ghost use Rattle.walk_rules.specs.Urw.{urw_bound, urw_thread};
 ghost use Rattle.walk_rules.specs.Walk.{GrantsAble};
 
 use crate::{Announced, Picked, Seen};
@@ -10,13 +12,13 @@ use draw_split::{Weights, split_one};
 use seed_draws::Draws;
 
 // Picks the thread at a drawn place of the bag of the numbers left, kept to the threads that can go on.
-#[tactic(auto, using(crate::proofs::Able::picks))]
+#[tactic(auto, using(crate::proofs::Able::picks), unfolding(seed_draws::specs::Answers::answers, seed_draws::specs::Answers::after_bounds))]
 pub(crate) fn pick<S: Draws>(left: &Weights, view: &Announced, selected: &mut S) -> Picked
     requires each { length view.now ≡ length left.now }
     requires some { 0 < urw_bound left.now view.now }
-    ensures picked { result ≡ urw_picked left.now view.now (S.answer selected.old) }
+    ensures picked { result ≡ granted_at (urw_thread left.now view.now) (answers S.Draws selected.old (urw_bound left.now view.now ∷ [])) }
     ensures able { GrantsAble view.now result }
-    ensures selected { selected.new ≡ S.after_answer selected.old (urw_bound left.now view.now) }
+    ensures selected { selected.new ≡ after_bounds S.Draws selected.old (urw_bound left.now view.now ∷ []) }
 {
     let (kept, bound) = kept_to_able(left.as_slice(), view.as_slice());
     match selected.below(bound) {

@@ -1,12 +1,19 @@
-ghost use Rattle.std.specs.Prelude.{◌≡◌, ◌↔◌, ◌<◌, ◌≤◌, IsTrue, IfOk, None, Some, length, slice_index};
+ghost use Rattle.std.specs.Prelude.{◌≡◌, ◌↔◌, ◌<◌, ◌≤◌, ◌&&◌, not, if◌then◌else◌, IsSome, IsTrue, IfOk, IfSome, None, Some, length, slice_index};
 ghost use Rattle.std.specs.Option.{option_map};
 ghost use Rattle.surw_base.specs.declared.limits.TheConstants.{THREADS, STEPS};
 ghost use Rattle.seed_draws.specs.Answers.{after_bounds};
+ghost use Rattle.frame_links.specs.Lists.{list_at};
+ghost use Rattle.walk_rules.specs.Ranks.{IsFalling, IsOrder};
 ghost use Rattle.walk_rules.specs.Seen.{able_threads};
-ghost use Rattle.walk_rules.specs.Walk.{new_walk, selected_bounds, other_bounds, picked_by, after_pick, after_done, first_wrong, wrong_by, counts_down, AreChosenUnder, GrantsAble};
+ghost use Rattle.walk_rules.specs.State.{new_memory, new_walk, ranked_memory};
+ghost use Rattle.walk_rules.specs.UnderPct.{IsUnderPct};
+ghost use Rattle.walk_rules.specs.Strategies.{counts_down, pick_from};
+ghost use Rattle.walk_rules.specs.Walk.{after_pick, after_done, first_wrong, wrong_of, AreChosenUnder, GrantsAble, IsDepth};
 
-use crate::{Announced, Grant, Picked, Rule, Seen, plain, urw};
+use crate::ranks::Ranks;
+use crate::{Announced, Grant, Picked, Rule, Seen, pct, plain, surw, urw};
 use draw_split::Weights;
+use frame_links::Links;
 use seed_draws::Draws;
 use std::alloc::Global;
 use std::marker::Model;
@@ -19,34 +26,41 @@ pub struct Walk {
     counts: Weights,
     steps: u32,
     left: Weights,
+    intended: Option<ThreadNo>,
+    // Under PCT alone.
+    ranks: Option<Ranks>,
     waiting: Option<Grant>,
 }
 
 impl Model for Walk {
-    ghost use Rattle.walk_rules.specs.Walk.{WalkState};
+    ghost use Rattle.walk_rules.specs.State.{WalkState, ranked_memory};
 
     ghost Value = { WalkState };
 
     ghost use Rattle.walk_rules.specs.WalkInside.{IsWalk};
 
-    ghost view = { λ walk. record { rule = walk.rule; counts = walk.counts; steps = walk.steps; left = walk.left; waiting = walk.waiting } };
+    ghost view = { λ walk. record { rule = walk.rule; counts = walk.counts; steps = walk.steps; left = walk.left; memory = ranked_memory walk.intended walk.ranks; waiting = walk.waiting } };
 
     ghost invariant = { IsWalk };
 }
 
 impl Walk {
     /// The strategy with a count of events for each thread.
-    pub fn new(rule: Rule, counts: Weights) -> Walk
-        ensures { result ≡ new_walk rule counts }
+    pub fn new(alloc: Global, rule: Rule, counts: Weights) -> Result<Walk, OutOfMemory>
+        requires { IsDepth rule }
+        ensures { IfOk result (λ walk. walk ≡ new_walk rule counts) }
     {
         let left = copy_of(&counts);
-        Walk {
+        let ranks = ranks_of(alloc, &rule, counts.threads())?;
+        Ok(Walk {
             rule,
             counts,
             steps: 0,
             left,
+            intended: None,
+            ranks,
             waiting: None,
-        }
+        })
     }
 
     /// An equal walk. An error comes only where memory is refused.
@@ -54,11 +68,14 @@ impl Walk {
         ensures { IfOk result (λ copy. copy ≡ self.now) }
     {
         let rule = self.rule.copy(alloc)?;
+        let ranks = copy_of_ranks(alloc, &self.ranks)?;
         Ok(Walk {
             rule,
             counts: copy_of(&self.counts),
             steps: self.steps,
             left: copy_of(&self.left),
+            intended: self.intended,
+            ranks,
             waiting: self.waiting,
         })
     }
@@ -71,6 +88,9 @@ impl Walk {
             && self.counts.as_slice() == other.counts.as_slice()
             && self.steps == other.steps
             && self.left.as_slice() == other.left.as_slice()
+            && self.intended == other.intended
+            && priorities_of(&self.ranks) == priorities_of(&other.ranks)
+            && changes_of(&self.ranks) == changes_of(&other.ranks)
             && self.waiting == other.waiting
     }
 
@@ -105,19 +125,32 @@ impl Walk {
         requires room { step < STEPS }
         requires free { self.old.waiting ≡ None }
         requires able { 0 < length (able_threads view.now) }
-        requires right { wrong_by self.old.rule self.old.counts self.old.left view.now ≡ None }
+        requires right { wrong_of self.old view.now ≡ None }
         requires chosen { AreChosenUnder self.old.rule view.now }
-        ensures picked { result ≡ picked_by self.old.rule self.old.left view.now (S.answer selected.old) (O.answer other.old) }
-        ensures walk { self.new ≡ after_pick self.old result }
-        ensures selected { selected.new ≡ after_bounds S.after_answer selected.old (selected_bounds self.old.rule self.old.left view.now) }
-        ensures other { other.new ≡ after_bounds O.after_answer other.old (other_bounds self.old.rule self.old.left view.now) }
+        ensures picked { result ≡ (pick_from S.Draws O.Draws self.old view.now selected.old other.old).picked }
+        ensures walk { self.new ≡ after_pick self.old (pick_from S.Draws O.Draws self.old view.now selected.old other.old) }
+        ensures selected { selected.new ≡ after_bounds S.Draws selected.old (pick_from S.Draws O.Draws self.old view.now selected.old other.old).selected_bounds }
+        ensures other { other.new ≡ after_bounds O.Draws other.old (pick_from S.Draws O.Draws self.old view.now selected.old other.old).other_bounds }
         ensures able { GrantsAble view.now result }
     {
+        let mut intended = self.intended;
         let picked = match self.rule {
             Rule::Urw => urw::pick(&self.left, view, selected),
+            Rule::Surw => match surw::intend(&self.left, self.intended, selected) {
+                Ok(found) => {
+                    intended = found;
+                    surw::choose(view, found, other)
+                }
+                Err(fault) => Picked::Stop(fault),
+            },
+            Rule::Pct { depth } => match &mut self.ranks {
+                Some(ranks) => pct::pick(depth, &self.counts, step, ranks, view, selected),
+                None => unreachable!(),
+            },
             Rule::Plain => plain::pick(view, other),
         };
         if let Picked::Grant { thread, forced } = picked {
+            self.intended = intended;
             self.waiting = Some(Grant { thread, forced });
         }
         picked
@@ -128,11 +161,12 @@ impl Walk {
     pub fn done(&mut self, thread: ThreadNo, chosen: bool, forced: bool)
         requires granted { self.old.waiting ≡ Some (record { thread = thread; forced = forced }) }
         requires left { IsTrue (counts_down self.old.rule) → IsTrue chosen → 0 < slice_index self.old.left thread }
-        ensures { self.new ≡ after_done self.old thread chosen }
+        ensures { self.new ≡ after_done self.old thread chosen forced }
     {
         if self.rule.counts_down() && chosen {
             self.left.take(thread);
         }
+        self.intended = intended_after(self.intended, chosen, forced);
         self.steps += 1;
         self.waiting = None;
     }
@@ -142,7 +176,7 @@ impl Walk {
     /// no thread is so.
     pub fn wrong(&self, view: &Announced) -> Option<(ThreadNo, u32, u32)>
         requires { length view.now ≡ length self.now.counts }
-        ensures { result ≡ wrong_by self.now.rule self.now.counts self.now.left view.now }
+        ensures { result ≡ wrong_of self.now view.now }
     {
         if !self.rule.counts_down() {
             return None;
@@ -156,12 +190,72 @@ impl Walk {
         }
     }
 
-    /// The thread that is intended. None under these rules, which intend no thread.
-    pub fn intended(&self) -> Option<ThreadNo>
-        ensures { result ≡ None }
+    /// Under PCT, once the priorities are drawn: links whose list 0 is the threads by priority, falling.
+    pub fn by_priority(&self) -> Option<&Links>
+        ensures some { IsSome result ↔ (0 < length self.now.memory.priorities) }
+        ensures falling { IfSome result (λ links. IsFalling self.now.memory.priorities (list_at links.now 0)) }
+        ensures each { IfSome result (λ links. IsOrder (length self.now.memory.priorities) (list_at links.now 0)) }
     {
-        None
+        match &self.ranks {
+            Some(ranks) => ranks.drawn(),
+            None => None,
+        }
     }
+
+    /// The thread that is intended, if there is one.
+    pub fn intended(&self) -> Option<ThreadNo>
+        ensures { result ≡ self.now.memory.intended }
+    {
+        self.intended
+    }
+}
+
+// The ranks that a rule wants for so many threads.
+fn ranks_of(alloc: Global, rule: &Rule, threads: usize) -> Result<Option<Ranks>, OutOfMemory>
+    requires few { threads ≤ THREADS }
+    requires depth { IsDepth rule.now }
+    ensures memory { IfOk result (λ ranks. ranked_memory None ranks ≡ new_memory) }
+    ensures ranks { IfOk result (λ ranks. IsUnderPct rule.now threads 0 None ranks) }
+{
+    match rule {
+        Rule::Pct { depth: _ } => Ok(Some(Ranks::new(alloc, threads)?)),
+        _ => Ok(None),
+    }
+}
+
+// Equal ranks, if there are any.
+fn copy_of_ranks(alloc: Global, ranks: &Option<Ranks>) -> Result<Option<Ranks>, OutOfMemory>
+    ensures { IfOk result (λ copy. copy ≡ ranks.now) }
+{
+    match ranks {
+        Some(ranks) => Ok(Some(ranks.copy(alloc)?)),
+        None => Ok(None),
+    }
+}
+
+fn priorities_of(ranks: &Option<Ranks>) -> &[u32]
+    ensures { result.now ≡ (ranked_memory None ranks.now).priorities }
+{
+    match ranks {
+        Some(ranks) => ranks.priorities(),
+        None => &[],
+    }
+}
+
+fn changes_of(ranks: &Option<Ranks>) -> &[u64]
+    ensures { result.now ≡ (ranked_memory None ranks.now).changes }
+{
+    match ranks {
+        Some(ranks) => ranks.changes(),
+        None => &[],
+    }
+}
+
+// The thread that is intended after a step: none after a selected one that isn't forced.
+fn intended_after(intended: Option<ThreadNo>, chosen: bool, forced: bool) -> Option<ThreadNo>
+    ensures { result ≡ (if chosen && not forced then None else intended) }
+{
+    if chosen && !forced { None } else { intended }
 }
 
 // Equal counts.

@@ -275,6 +275,15 @@ fn update(rt: &HostRuntime, draws: &[u64]) -> Result<Told, Fail>
     told_of(rt, lost_update(rt, draws, 8)?)
 }
 
+// What is told of the same two threads under SURW.
+fn intended_update(rt: &HostRuntime, draws: &[u64]) -> Result<Told, Fail>
+    requires { length draws.now ≤ STEPS }
+{
+    let texts = ["load 0 -> r0", "plus r0 1", "store 0 r0"];
+    let routines = pair(rt, steps(rt, &texts, 1)?, steps(rt, &texts, 1)?)?;
+    told_of(rt, plan(rt, Rule::Surw, routines, &[2, 2], draws, 8)?)
+}
+
 // What is told of two threads that run the lines of these texts once, under URW for at most 8 steps.
 fn two(
     rt: &HostRuntime,
@@ -379,6 +388,24 @@ fn an_update_is_lost_between_a_load_and_a_store(rt: HostRuntime) -> Result<(), F
         ..NOTHING
     };
     assert_told(&rt, update(&rt, &[0, 1, 0, 0]), wanted)
+}
+
+#[test]
+fn under_surw_an_update_is_lost_on_the_same_draws(rt: HostRuntime) -> Result<(), Fail> {
+    let store = Event::Store { c: 0, v: 1 };
+    let wanted = Told {
+        steps: 4,
+        entries: [
+            entry(0, LOAD, 0),
+            entry(1, LOAD, 0),
+            entry(0, store, 0),
+            entry(1, store, 0),
+        ],
+        cell: Some(1),
+        failed: Some(4),
+        ..NOTHING
+    };
+    assert_told(&rt, intended_update(&rt, &[0, 1, 0, 0]), wanted)
 }
 
 #[test]

@@ -1,12 +1,13 @@
 ghost use Rattle.std.specs.Prelude.{◌≡◌, ◌↔◌, ◌<◌, IsTrue, MatchOption, None, length};
 ghost use Rattle.std.specs.List.{All};
 ghost use Rattle.walk_rules.specs.Seen.{is_announcing, is_chosen};
-ghost use Rattle.walk_rules.specs.Walk.{after_pick, AreChosenUnder};
+ghost use Rattle.walk_rules.specs.State.{Memory};
+ghost use Rattle.walk_rules.specs.Walk.{after_picked, AreChosenUnder};
 
 use super::*;
 use crate::{Asked, AskedList};
 use event_class::Event;
-use seed_draws::DrawFault;
+use seed_draws::{DrawFault, StrictTape};
 use std::test::Fail;
 use surw_base::STEPS;
 
@@ -90,7 +91,7 @@ fn next(walk: &mut Walk, view: &Announced, selected: u64, other: u64) -> Option<
     requires each { length view.now ≡ length walk.old.counts }
     requires free { walk.old.waiting ≡ None }
     requires chosen { All (λ seen. IsTrue (is_announcing seen) → IsTrue (is_chosen seen)) view.now }
-    ensures { MatchOption result (walk.new ≡ walk.old) (λ picked. walk.new ≡ after_pick walk.old picked) }
+    ensures { MatchOption result (walk.new ≡ walk.old) (λ picked. (memory : Memory) × (walk.new ≡ after_picked walk.old memory picked)) }
 {
     let step = walk.steps();
     if step == STEPS || view.able() == 0 || walk.wrong(view).is_some() {
@@ -127,10 +128,10 @@ fn grant(number: u8) -> Option<Picked> {
 }
 
 #[test]
-fn urw_picks_by_weight(rt: HostRuntime) {
+fn urw_picks_by_weight(rt: HostRuntime) -> Result<(), Fail> {
     let all = view([Some(true), Some(true), None]);
     for (draw, thread) in [(0, 0), (1, 0), (2, 1)] {
-        let mut walk = Walk::new(Rule::Urw, Weights::new(&[2, 1, 0]));
+        let mut walk = Walk::new(rt.alloc(), Rule::Urw, Weights::new(&[2, 1, 0]))?;
         assert_eq!(rt;
             next(&mut walk, &all, draw, 9),
             grant(thread),
@@ -138,27 +139,29 @@ fn urw_picks_by_weight(rt: HostRuntime) {
         );
     }
     let held = view([Some(false), Some(true), None]);
-    let mut walk = Walk::new(Rule::Urw, Weights::new(&[2, 1, 0]));
+    let mut walk = Walk::new(rt.alloc(), Rule::Urw, Weights::new(&[2, 1, 0]))?;
     assert_eq!(rt; next(&mut walk, &held, 0, 9), grant(1));
+    Ok(())
 }
 
 #[test]
-fn plain_picks_the_draw_th_of_those_that_can_go_on(rt: HostRuntime) {
+fn plain_picks_the_draw_th_of_those_that_can_go_on(rt: HostRuntime) -> Result<(), Fail> {
     let all = view([Some(true), Some(false), Some(true)]);
     for (draw, thread) in [(0, 0), (1, 2)] {
-        let mut walk = Walk::new(Rule::Plain, Weights::new(&[0, 0, 0]));
+        let mut walk = Walk::new(rt.alloc(), Rule::Plain, Weights::new(&[0, 0, 0]))?;
         assert_eq!(rt;
             next(&mut walk, &all, 9, draw),
             grant(thread),
             "draw {draw}"
         );
     }
+    Ok(())
 }
 
 #[test]
 fn a_refusal_leaves_the_walk_as_it_was(rt: HostRuntime) -> Result<(), Fail> {
     let all = view([Some(true), Some(true), None]);
-    let mut walk = Walk::new(Rule::Urw, Weights::new(&[2, 1, 0]));
+    let mut walk = Walk::new(rt.alloc(), Rule::Urw, Weights::new(&[2, 1, 0]))?;
     let before = walk.copy(rt.alloc())?;
     let fault = DrawFault::Large {
         place: 0,
@@ -173,7 +176,7 @@ fn a_refusal_leaves_the_walk_as_it_was(rt: HostRuntime) -> Result<(), Fail> {
 #[test]
 fn a_copy_is_the_same_until_a_grant(rt: HostRuntime) -> Result<(), Fail> {
     let all = view([Some(true), Some(true), None]);
-    let mut walk = Walk::new(Rule::Plain, Weights::new(&[2, 1, 0]));
+    let mut walk = Walk::new(rt.alloc(), Rule::Plain, Weights::new(&[2, 1, 0]))?;
     let before = walk.copy(rt.alloc())?;
     assert_eq!(rt; next(&mut walk, &all, 0, 1), grant(1));
     assert!(rt; !walk.same(&before));
@@ -183,8 +186,8 @@ fn a_copy_is_the_same_until_a_grant(rt: HostRuntime) -> Result<(), Fail> {
 }
 
 #[test]
-fn the_least_wrong_thread_is_named(rt: HostRuntime) {
-    let walk = Walk::new(Rule::Urw, Weights::new(&[2, 1, 0]));
+fn the_least_wrong_thread_is_named(rt: HostRuntime) -> Result<(), Fail> {
+    let walk = Walk::new(rt.alloc(), Rule::Urw, Weights::new(&[2, 1, 0]))?;
     assert_eq!(rt; walk.wrong(&view([Some(true), Some(false), None])), None);
     let ended = ThreadNo::new(1).unwrap();
     assert_eq!(rt;
@@ -196,14 +199,15 @@ fn the_least_wrong_thread_is_named(rt: HostRuntime) {
         walk.wrong(&view([Some(true), Some(true), Some(false)])),
         Some((over, 0, 0))
     );
-    let plain = Walk::new(Rule::Plain, Weights::new(&[2, 1, 0]));
+    let plain = Walk::new(rt.alloc(), Rule::Plain, Weights::new(&[2, 1, 0]))?;
     assert_eq!(rt; plain.wrong(&view([None, None, Some(true)])), None);
+    Ok(())
 }
 
 #[test]
-fn an_event_more_than_counted_is_wrong_with_the_number_made(rt: HostRuntime) {
+fn an_event_more_than_counted_is_wrong_with_the_number_made(rt: HostRuntime) -> Result<(), Fail> {
     let all = view([Some(true), Some(true), None]);
-    let mut walk = Walk::new(Rule::Urw, Weights::new(&[1, 1, 0]));
+    let mut walk = Walk::new(rt.alloc(), Rule::Urw, Weights::new(&[1, 1, 0]))?;
     step(&mut walk, &all, 0);
     assert_eq!(rt; walk.steps(), 1);
     let first = ThreadNo::new(0).unwrap();
@@ -212,6 +216,7 @@ fn an_event_more_than_counted_is_wrong_with_the_number_made(rt: HostRuntime) {
         walk.wrong(&view([Some(true), Some(true), None])),
         Some((first, 1, 1))
     );
+    Ok(())
 }
 
 #[test]
@@ -240,5 +245,38 @@ fn asked_entries_stand_in_order(rt: HostRuntime) -> Result<(), Fail> {
     let list = AskedList::new(Vec::from_slice(rt.alloc(), &[first, second])?);
     assert_eq!(rt; list.len(), 2);
     assert_eq!(rt; list.at(1), second);
+    Ok(())
+}
+
+#[test]
+fn pct_lowers_the_highest_at_its_change_point(rt: HostRuntime) -> Result<(), Fail> {
+    let mut walk = Walk::new(rt.alloc(), Rule::Pct { depth: 2 }, Weights::new(&[2, 2]))?;
+    let first = ThreadNo::new(0).unwrap();
+    let second = ThreadNo::new(1).unwrap();
+    let mut view = Announced::new(2);
+    view.set(first, Seen::Able { chosen: true });
+    view.set(second, Seen::Able { chosen: true });
+    let mut selected = StrictTape::new(Vec::from_slice(rt.alloc(), &[1, 0, 1])?);
+    let mut other = StrictTape::new(Vec::from_slice(rt.alloc(), &[])?);
+    for (step, thread) in [second, first, first, second].iter().enumerate() {
+        assert_eq!(rt; walk.pick(step as u32, &view, &mut selected, &mut other), Picked::Grant { thread: *thread, forced: false });
+        walk.done(*thread, true, false);
+        if step == 2 {
+            view.set(first, Seen::Over);
+        }
+    }
+    Ok(())
+}
+
+#[test]
+fn pct_stops_where_a_draw_is_refused(rt: HostRuntime) -> Result<(), Fail> {
+    let mut walk = Walk::new(rt.alloc(), Rule::Pct { depth: 2 }, Weights::new(&[2, 2]))?;
+    let mut view = Announced::new(2);
+    view.set(ThreadNo::new(0).unwrap(), Seen::Able { chosen: true });
+    view.set(ThreadNo::new(1).unwrap(), Seen::Able { chosen: true });
+    let mut selected = StrictTape::new(Vec::from_slice(rt.alloc(), &[1])?);
+    let mut other = StrictTape::new(Vec::from_slice(rt.alloc(), &[])?);
+    assert_eq!(rt; walk.pick(0, &view, &mut selected, &mut other), Picked::Stop(DrawFault::Short { place: 1 }));
+    assert!(rt; walk.by_priority().is_none());
     Ok(())
 }

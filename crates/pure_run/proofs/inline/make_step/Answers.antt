@@ -16,8 +16,8 @@ pub take-requires : goal.take-requires
 take-requires g c =
     let plan = c.args.plan.now in
     let core = c.args.core.now in
-    let selected = source_of g.S.Draws.answer g.S.Draws.after_answer g.S.Draws.bent_draws in
-    let other = source_of g.O.Draws.answer g.O.Draws.after_answer g.O.Draws.bent_draws in
+    let selected = source_of g.S.Draws in
+    let other = source_of g.O.Draws in
     let same : setup_by selected other core ≡ setup_of (selected plan.selected) (other plan.other) plan =
     ap (λ opened. setup_in (selected opened.selected) (other opened.other) opened) c.requires.opened in
     let granted = sym (ap (λ setup. granted_of setup core) same) ∙ c.requires.granted in
@@ -30,8 +30,8 @@ pub say-requires : goal.say-requires
 say-requires g c =
     let plan = c.args.plan.now in
     let core = c.args.core.now in
-    let selected = source_of g.S.Draws.answer g.S.Draws.after_answer g.S.Draws.bent_draws in
-    let other = source_of g.O.Draws.answer g.O.Draws.after_answer g.O.Draws.bent_draws in
+    let selected = source_of g.S.Draws in
+    let other = source_of g.O.Draws in
     let same : setup_by selected other core ≡ setup_of (selected plan.selected) (other plan.other) plan =
     ap (λ opened. setup_in (selected opened.selected) (other opened.other) opened) c.requires.opened in
     let granted = sym (ap (λ setup. granted_of setup core) same) ∙ c.requires.granted in
@@ -45,8 +45,8 @@ pub returns-clause-opened : goal.returns-clause-opened
 returns-clause-opened g c =
     let plan = c.args.plan.now in
     let core = c.args.core.now in
-    let selected = source_of g.S.Draws.answer g.S.Draws.after_answer g.S.Draws.bent_draws in
-    let other = source_of g.O.Draws.answer g.O.Draws.after_answer g.O.Draws.bent_draws in
+    let selected = source_of g.S.Draws in
+    let other = source_of g.O.Draws in
     let same : setup_by selected other core ≡ setup_of (selected plan.selected) (other plan.other) plan =
     ap (λ opened. setup_in (selected opened.selected) (other opened.other) opened) c.requires.opened in
     let granted = sym (ap (λ setup. granted_of setup core) same) ∙ c.requires.granted in
@@ -59,8 +59,8 @@ pub returns-clause-inline : goal.returns-clause-inline
 returns-clause-inline g c =
     let plan = c.args.plan.now in
     let core = c.args.core.now in
-    let selected = source_of g.S.Draws.answer g.S.Draws.after_answer g.S.Draws.bent_draws in
-    let other = source_of g.O.Draws.answer g.O.Draws.after_answer g.O.Draws.bent_draws in
+    let selected = source_of g.S.Draws in
+    let other = source_of g.O.Draws in
     let same : setup_by selected other core ≡ setup_of (selected plan.selected) (other plan.other) plan =
     ap (λ opened. setup_in (selected opened.selected) (other opened.other) opened) c.requires.opened in
     let granted = sym (ap (λ setup. granted_of setup core) same) ∙ c.requires.granted in
@@ -82,8 +82,8 @@ pub returns-clause-steps : goal.returns-clause-steps
 returns-clause-steps g c =
     let plan = c.args.plan.now in
     let core = c.args.core.now in
-    let selected = source_of g.S.Draws.answer g.S.Draws.after_answer g.S.Draws.bent_draws in
-    let other = source_of g.O.Draws.answer g.O.Draws.after_answer g.O.Draws.bent_draws in
+    let selected = source_of g.S.Draws in
+    let other = source_of g.O.Draws in
     let same : setup_by selected other core ≡ setup_of (selected plan.selected) (other plan.other) plan =
     ap (λ opened. setup_in (selected opened.selected) (other opened.other) opened) c.requires.opened in
     let granted = sym (ap (λ setup. granted_of setup core) same) ∙ c.requires.granted in

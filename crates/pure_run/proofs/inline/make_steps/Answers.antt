@@ -11,8 +11,8 @@ pub returns-in_default-clause-stops : goal.returns-in_default-clause-stops
 returns-in_default-clause-stops g c =
     let plan = c.args.plan.now in
     let core = c.loop-step.core in
-    let selected = source_of g.S.Draws.answer g.S.Draws.after_answer g.S.Draws.bent_draws in
-    let other = source_of g.O.Draws.answer g.O.Draws.after_answer g.O.Draws.bent_draws in
+    let selected = source_of g.S.Draws in
+    let other = source_of g.O.Draws in
     let same = ap (λ opened. granted_of (setup_in (selected opened.selected) (other opened.other) opened) core) c.loop-step.invariant.opened in
     stops-ungranted (setup_of (selected plan.selected) (other plan.other) plan) core
     (ap (list_any is_due) c.loop-step.invariant.inline.said ∙ none-due g.R.Routine.announced c.loop-step.routines.items)
@@ -22,8 +22,8 @@ pub returns-clause-stops : goal.returns-clause-stops
 returns-clause-stops g c =
     let plan = c.args.plan.now in
     let core = c.loop-step.core in
-    let selected = source_of g.S.Draws.answer g.S.Draws.after_answer g.S.Draws.bent_draws in
-    let other = source_of g.O.Draws.answer g.O.Draws.after_answer g.O.Draws.bent_draws in
+    let selected = source_of g.S.Draws in
+    let other = source_of g.O.Draws in
     let full : length core.journal ≡ plan.max_steps = omega (arith, c.loop-step.invariant.steps, c.loop-step-test.false, c.loop-step.auto._step-end) in
     stops-full (setup_of (selected plan.selected) (other plan.other) plan) core
     (ap (list_any is_due) c.loop-step.invariant.inline.said ∙ none-due g.R.Routine.announced c.loop-step.routines.items)

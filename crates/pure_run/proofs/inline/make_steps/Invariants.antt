@@ -10,7 +10,7 @@ invariant-loop-step g l = record {
   valid : IsValidPlan l.plan;
   opened : l.core.opened ≡ opened_with l.plan;
   inline : IsInline g.R.Routine.announced g.R.Routine.after_reply l.plan
-      (source_of g.S.Draws.answer g.S.Draws.after_answer g.S.Draws.bent_draws l.plan.selected) (source_of g.O.Draws.answer g.O.Draws.after_answer g.O.Draws.bent_draws l.plan.other)
+      (source_of g.S.Draws l.plan.selected) (source_of g.O.Draws l.plan.other)
       l.core l.routines.items;
   steps : length l.core.journal ≡ l._step;
 }

@@ -21,7 +21,7 @@ returns-clause-report g c =
       run = record {
         plan = c.in_ok-plan.plan;
         planned = rw (← c.counts-counts.ensures) c.in_ok-plan.ensures.plan;
-        run = c.in_ok-run.ensures;
+        run = c.in_ok-run.ensures.run;
       };
       printed = c.in_ok-text.ensures;
       ends = c.status_of.ensures;

@@ -23,17 +23,17 @@ new-requires-clause-watched g c =
 pub returns-clause-run : goal.returns-clause-run
 returns-clause-run g c verdict is =
     let i = c.self.inside in
-    let selected = source_of g.S.Draws.answer g.S.Draws.after_answer g.S.Draws.bent_draws in
-    let other = source_of g.O.Draws.answer g.O.Draws.after_answer g.O.Draws.bent_draws in
+    let selected = source_of g.S.Draws in
+    let other = source_of g.O.Draws in
     let setup = setup_in (selected i.opened.selected) (other i.opened.other) i.opened in
     let x = position_in i.journal.items i.words.items in
     let running = c.self.invariant.1 in
     let found = c.in-Stopped.verdict in
-    let stop = stop g.S.Draws.after_answer g.O.Draws.after_answer g.S.Draws.bent_draws g.O.Draws.bent_draws setup i.opened (λ bounds. refl) (λ bounds. refl)
+    let stop = stop g.S.Draws g.O.Draws g.S.Draws.bent_draws g.O.Draws.bent_draws setup i.opened (λ bounds. refl) (λ bounds. refl)
     i.journal.items i.words.items i.world i.due i.view i.walk i.selected i.other i.failed.items i.next running found c.in-Stopped.is in
     let same : found ≡ verdict = same_Some found verdict
     (sym (ap (λ b. cond b None (verdict_at setup x)) stop.said ∙ stop.is) ∙ ap (λ core. verdict_of (setup_by selected other core) core) c.self.view_is ∙ is) in
-    ran-finished g.S.Draws.after_answer g.O.Draws.after_answer g.S.Draws.bent_draws g.O.Draws.bent_draws setup i.opened (λ bounds. refl) (λ bounds. refl)
+    ran-finished g.S.Draws g.O.Draws g.S.Draws.bent_draws g.O.Draws.bent_draws setup i.opened (λ bounds. refl) (λ bounds. refl)
     i.journal.items i.words.items i.world i.due i.view i.walk i.selected i.other i.failed.items i.next running found c.in-Stopped.is
     c.new.result c.last_words-words.result.items c.saturating_add-bent.result c.into_watched-selection.result.0 c.into_watched-selection.result.1.items
     c.new.ensures (c.last_words-words.ensures ∙ ap (λ ws. map last_word ws) c.as_slice.ensures.value)

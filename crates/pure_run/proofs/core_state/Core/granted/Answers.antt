@@ -10,8 +10,8 @@ use Rattle.pure_run.proofs.core_state.Core.granted.Goals as goal
 pub returns-in-Granted-clause-able : goal.returns-in-Granted-clause-able
 returns-in-Granted-clause-able g c =
     let i = c.self.inside in
-    let selected = source_of g.S.Draws.answer g.S.Draws.after_answer g.S.Draws.bent_draws in
-    let other = source_of g.O.Draws.answer g.O.Draws.after_answer g.O.Draws.bent_draws in
+    let selected = source_of g.S.Draws in
+    let other = source_of g.O.Draws in
     let setup = setup_in (selected i.opened.selected) (other i.opened.other) i.opened in
     let running = c.self.invariant.1 in
     let able = subst (λ v. IsAbleNext v i.next) running.view running.able in

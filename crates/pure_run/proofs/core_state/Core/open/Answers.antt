@@ -8,19 +8,19 @@ use Rattle.pure_run.proofs.core_state.Core.open.Goals as goal
 
 pub new-requires-clause-limits : goal.new-requires-clause-limits
 new-requires-clause-limits g c =
-    let selected : Source = source_of g.S.Draws.answer g.S.Draws.after_answer g.S.Draws.bent_draws c.args.plan.now.selected in
+    let selected : Source = source_of g.S.Draws c.args.plan.now.selected in
     let valid : IsValid (setup_of selected selected c.args.plan.now) = c.requires.valid selected selected in
     valid.limits
 
 pub new-requires-clause-no_devices : goal.new-requires-clause-no_devices
 new-requires-clause-no_devices g c =
-    let selected : Source = source_of g.S.Draws.answer g.S.Draws.after_answer g.S.Draws.bent_draws c.args.plan.now.selected in
+    let selected : Source = source_of g.S.Draws c.args.plan.now.selected in
     let valid : IsValid (setup_of selected selected c.args.plan.now) = c.requires.valid selected selected in
     valid.no_devices
 
 pub first_failed-requires : goal.first_failed-requires
 first_failed-requires g c =
-    let selected : Source = source_of g.S.Draws.answer g.S.Draws.after_answer g.S.Draws.bent_draws c.args.plan.now.selected in
+    let selected : Source = source_of g.S.Draws c.args.plan.now.selected in
     let valid : IsValid (setup_of selected selected c.args.plan.now) = c.requires.valid selected selected in
     subst (λ size. All (CanWatch size) c.as_slice.result.now) (sym (ap (λ w. w.size) c.in_ok-world.ensures))
     (subst (λ monitors. All (CanWatch c.args.plan.now.world) monitors) (sym c.as_slice.ensures.value) valid.watched)

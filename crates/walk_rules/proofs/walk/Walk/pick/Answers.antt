@@ -1,6 +1,8 @@
-use Rattle.std.proofs.Common.{ℕ, ◌<◌, List, ap, sym, subst, ◌∙◌}
+use Rattle.std.proofs.Common.{ℕ, ◌<◌, List, ap, sym, subst, ◌∙◌, refl}
+use Rattle.walk_rules.specs.State.{WalkState}
+use Rattle.walk_rules.specs.Strategies.{counts_down, wants_every}
 use Rattle.walk_rules.specs.Urw.{urw_bound}
-use Rattle.walk_rules.specs.Walk.{WalkState}
+use Rattle.walk_rules.specs.Walk.{wrong_by, AreChosen}
 use Rattle.walk_rules.proofs.Wrong.{urw-some}
 use Rattle.walk_rules.proofs.walk.Walk.pick.Goals as goal
 
@@ -8,5 +10,7 @@ pub pick-picked-requires-clause-some : goal.pick-picked-requires-clause-some
 pick-picked-requires-clause-some g c =
     let walk : WalkState = c.args.self.now in
     let rule = sym (ap (λ (w : WalkState). w.rule) c.self.view_is) ∙ c.in-Urw.is in
-    let some = urw-some walk.rule walk.counts walk.left c.args.view.now rule c.requires.able c.requires.right c.requires.chosen in
+    let right = sym (ap (λ r. wrong_by (counts_down r) walk.counts walk.left c.args.view.now) rule) ∙ c.requires.right in
+    let chosen = c.requires.chosen (ap wants_every rule) in
+    let some = urw-some walk.counts walk.left c.args.view.now c.requires.able right chosen in
     subst (λ (left : List ℕ). 0 < urw_bound left c.args.view.now) (sym (ap (λ (w : WalkState). w.left) c.self.view_is)) some

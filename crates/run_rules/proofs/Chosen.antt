@@ -1,4 +1,4 @@
--- Under URW every announced event is selected.
+-- Under a rule that wants every event selected, each announced one is.
 use Rattle.std.proofs.Common.{Bool, true, false, cond, All, List, [], ◌∷◌, get_or, map, Option, None, Some, IsTrue, refl, sym, subst}
 use Rattle.std.proofs.lemmas.Bool.{false≢true}
 use Rattle.std.proofs.lemmas.List.Elements.{All-from_get_or, All-map}
@@ -7,10 +7,9 @@ use Rattle.event_class.specs.declared.pickable.Pickable.{Pickable}
 use Rattle.event_class.specs.declared.pickable.Pickable.TheVariants.{Every}
 use Rattle.test_world.specs.World.{WorldState, is_enabled}
 use Rattle.walk_rules.specs.declared.rule.Rule.{Rule}
-use Rattle.walk_rules.specs.declared.rule.Rule.TheVariants.{Urw, Plain}
 use Rattle.walk_rules.specs.declared.seen.Seen.TheVariants.{Held, Able}
 use Rattle.walk_rules.specs.Seen.{is_announcing, is_chosen}
-use Rattle.walk_rules.specs.Walk.{AreChosenUnder}
+use Rattle.walk_rules.specs.Walk.{AreChosen, AreChosenUnder}
 use Rattle.run_rules.specs.Position.{seen_word}
 use Rattle.run_rules.specs.Setup.{SelectsAllUnder}
 
@@ -30,6 +29,5 @@ chosen-words world words =
 
 pub chosen-under : (rule : Rule) (world : WorldState) (selection : List Pickable) (words : List (Option Event)) → SelectsAllUnder rule selection
     → AreChosenUnder rule (map (seen_word world selection) words)
-chosen-under Urw world selection words every =
-    subst (λ items. All (λ seen. IsTrue (is_announcing seen) → IsTrue (is_chosen seen)) (map (seen_word world items) words)) (sym every) (chosen-words world words)
-chosen-under Plain world selection words every = tt
+chosen-under rule world selection words every = λ wanted.
+    subst (λ items. AreChosen (map (seen_word world items) words)) (sym (every wanted)) (chosen-words world words)

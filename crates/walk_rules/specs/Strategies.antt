@@ -1,0 +1,35 @@
+-- The strategy of each rule. No other definition here looks at the rule.
+use Rattle.std.specs.Prelude.{Bool, List}
+use Rattle.seed_draws.specs.declared.draws.Draws.{Ghosts}
+use Rattle.seed_draws.specs.Answers.{Answering, answers}
+use Rattle.walk_rules.specs.declared.rule.Rule.{Rule}
+use Rattle.walk_rules.specs.declared.rule.Rule.TheVariants.{Urw, Surw, Pct, Plain}
+use Rattle.walk_rules.specs.declared.seen.Seen.{Seen}
+use Rattle.walk_rules.specs.Pct.{pct}
+use Rattle.walk_rules.specs.Plain.{plain}
+use Rattle.walk_rules.specs.State.{WalkState}
+use Rattle.walk_rules.specs.Strategy.{OnePick, Strategy}
+use Rattle.walk_rules.specs.Surw.{surw}
+use Rattle.walk_rules.specs.Urw.{urw}
+
+abbrev pub strategy : Rule → Strategy
+strategy Urw = urw
+strategy Surw = surw
+strategy (Pct depth) = pct depth
+strategy Plain = plain
+
+-- whether a rule takes from the numbers left
+abbrev pub counts_down : Rule → Bool
+counts_down rule = (strategy rule).counts_down
+
+-- whether a rule wants every event selected
+abbrev pub wants_every : Rule → Bool
+wants_every rule = (strategy rule).wants_every
+
+-- the pick of a walk, by the answers of the two sources
+abbrev pub pick_by : WalkState → List Seen → Answering → Answering → OnePick
+pick_by walk view selected other = (strategy walk.rule).pick walk view selected other
+
+-- and by the two sources themselves
+abbrev pub pick_from : {S O : Type 0} → Ghosts S → Ghosts O → WalkState → List Seen → S → O → OnePick
+pick_from selected_draws other_draws walk view selected other = pick_by walk view (answers selected_draws selected) (answers other_draws other)

@@ -1,0 +1,157 @@
+ghost use Rattle.std.specs.Prelude.{◌≡◌, ◌<◌, ◌≤◌, ◌-◌, ◌+◌, length, replicate, sum, IfOk, MatchResult, OnOk, OnErr, Ok, Err};
+ghost use Rattle.draw_split.specs.Named.{named_order};
+ghost use Rattle.seed_draws.specs.Answers.{after_bounds, answers};
+ghost use Rattle.surw_base.specs.declared.limits.TheConstants.{STEPS, THREADS};
+ghost use Rattle.seed_draws.specs.Falling.{falling};
+ghost use Rattle.walk_rules.specs.Pct.{found_by, pct_asked, pct_bounds, pct_memory, pct_picked};
+ghost use Rattle.walk_rules.specs.Ranked.{IsFresh, IsReadyFor};
+ghost use Rattle.walk_rules.specs.PctDraws.{change_bounds, draws_found, order_found};
+ghost use Rattle.walk_rules.specs.State.{memory_of};
+ghost use Rattle.walk_rules.specs.Ranks.{IsOrder};
+ghost use Rattle.walk_rules.specs.Seen.{able_threads};
+ghost use Rattle.walk_rules.specs.Walk.{GrantsAble};
+
+use crate::ranks::Ranks;
+use crate::{Announced, Picked};
+use arrayvec::ArrayVec;
+use draw_split::{Weights, split_one};
+use seed_draws::{DrawFault, Draws};
+
+// Makes the changes before a step, at the first one after the draws, and picks the thread of highest priority.
+pub(crate) fn pick<S: Draws>(
+    depth: u8,
+    counts: &Weights,
+    step: u32,
+    ranks: &mut Ranks,
+    view: &Announced,
+    selected: &mut S,
+) -> Picked
+    requires depth { (1 ≤ depth) × (depth ≤ 16) }
+    requires room { step < STEPS }
+    requires threads { ranks.old.threads ≡ length counts.now }
+    requires each { length view.now ≡ length counts.now }
+    requires able { 0 < length (able_threads view.now) }
+    requires drawn { 0 < step → length ranks.old.priorities ≡ length counts.now }
+    requires fresh { 0 < step → IsFresh step ranks.old.changes ranks.old.priorities }
+    ensures picked { result ≡ pct_picked step view.now (found_by depth step counts.now (memory_of ranks.old) (answers S.Draws selected.old (pct_asked depth step counts.now))) }
+    ensures memory { memory_of ranks.new ≡ pct_memory step view.now (memory_of ranks.old) (found_by depth step counts.now (memory_of ranks.old) (answers S.Draws selected.old (pct_asked depth step counts.now))) }
+    ensures able { GrantsAble view.now result }
+    ensures selected { selected.new ≡ after_bounds S.Draws selected.old (pct_asked depth step counts.now) }
+    ensures threads { ranks.new.threads ≡ ranks.old.threads }
+    ensures ready { IsReadyFor step ranks.old ranks.new result }
+{
+    match ready(depth, counts, step, ranks, selected) {
+        Ok(()) => {
+            ranks.change(step, view.as_slice());
+            Picked::Grant {
+                thread: ranks.highest(view.as_slice()),
+                forced: false,
+            }
+        }
+        Err(fault) => Picked::Stop(fault),
+    }
+}
+
+// At the first step, draws the priorities and the change points.
+fn ready<S: Draws>(
+    depth: u8,
+    counts: &Weights,
+    step: u32,
+    ranks: &mut Ranks,
+    selected: &mut S,
+) -> Result<(), DrawFault>
+    requires depth { (1 ≤ depth) × (depth ≤ 16) }
+    requires threads { ranks.old.threads ≡ length counts.now }
+    requires drawn { 0 < step → length ranks.old.priorities ≡ length counts.now }
+    requires fresh { 0 < step → IsFresh step ranks.old.changes ranks.old.priorities }
+    ensures found { MatchResult result
+        (λ _. found_by depth step counts.now (memory_of ranks.old) (answers S.Draws selected.old (pct_asked depth step counts.now)) ≡ Ok (memory_of ranks.new))
+        (λ fault. found_by depth step counts.now (memory_of ranks.old) (answers S.Draws selected.old (pct_asked depth step counts.now)) ≡ Err fault) }
+    ensures threads { ranks.new.threads ≡ length counts.now }
+    ensures drawn { OnOk result (length ranks.new.priorities ≡ length counts.now) }
+    ensures fresh { OnOk result (IsFresh step ranks.new.changes ranks.new.priorities) }
+    ensures stays { OnErr result (ranks.new ≡ ranks.old) }
+    ensures selected { selected.new ≡ after_bounds S.Draws selected.old (pct_asked depth step counts.now) }
+{
+    if step > 0 {
+        return Ok(());
+    }
+    match draw(depth, counts, selected) {
+        Ok((order, changes)) => {
+            ranks.put_in_order(order.as_slice(), u32::from(depth), changes);
+            Ok(())
+        }
+        Err(fault) => Err(fault),
+    }
+}
+
+// Draws an order of the threads, and the change points where there are events.
+fn draw<S: Draws>(
+    depth: u8,
+    counts: &Weights,
+    selected: &mut S,
+) -> Result<(ArrayVec<u8, 16>, ArrayVec<u64, 16>), DrawFault>
+    requires depth { (1 ≤ depth) × (depth ≤ 16) }
+    ensures drawn { MatchResult result (λ drawn. draws_found (length counts.now) (answers S.Draws selected.old (pct_bounds depth counts.now)) ≡ Ok (drawn.0.items, drawn.1.items)) (λ fault. answers S.Draws selected.old (pct_bounds depth counts.now) ≡ Err fault) }
+    ensures order { IfOk result (λ drawn. IsOrder (length counts.now) drawn.0.items) }
+    ensures points { IfOk result (λ drawn. length drawn.1.items < depth) }
+    ensures selected { selected.new ≡ after_bounds S.Draws selected.old (pct_bounds depth counts.now) }
+{
+    match draw_order(counts.threads(), selected) {
+        Ok(order) => match draw_changes(depth, counts.sum(), selected) {
+            Ok(changes) => Ok((order, changes)),
+            Err(fault) => Err(fault),
+        },
+        Err(fault) => Err(fault),
+    }
+}
+
+// Draws an order of so many threads.
+fn draw_order<S: Draws>(threads: usize, selected: &mut S) -> Result<ArrayVec<u8, 16>, DrawFault>
+    requires { threads ≤ THREADS }
+    ensures drawn { MatchResult result (λ order. order_found (replicate threads 1) (answers S.Draws selected.old (falling threads)) ≡ Ok order.items) (λ fault. answers S.Draws selected.old (falling threads) ≡ Err fault) }
+    ensures order { IfOk result (λ order. IsOrder threads order.items) }
+    ensures selected { selected.new ≡ after_bounds S.Draws selected.old (falling threads) }
+{
+    let mut order = ArrayVec::new();
+    let mut left = ones(threads);
+    while left.sum() > 0 {
+        match selected.below(left.sum()) {
+            Ok(draw) => {
+                let (thread, _offset) = split_one(left.as_slice(), draw);
+                order.push(thread.get());
+                left.take(thread);
+            }
+            Err(fault) => return Err(fault),
+        }
+    }
+    Ok(order)
+}
+
+// A count of 1 for each of so many threads.
+fn ones(threads: usize) -> Weights
+    requires { threads ≤ THREADS }
+    ensures { result ≡ replicate threads 1 }
+{
+    let all = [1; 16];
+    Weights::new(&all[..threads])
+}
+
+// Draws the change points below a number of events.
+fn draw_changes<S: Draws>(depth: u8, events: u64, selected: &mut S) -> Result<ArrayVec<u64, 16>, DrawFault>
+    requires { (1 ≤ depth) × (depth ≤ 16) }
+    ensures drawn { MatchResult result (λ changes. answers S.Draws selected.old (change_bounds depth events) ≡ Ok changes.items) (λ fault. answers S.Draws selected.old (change_bounds depth events) ≡ Err fault) }
+    ensures points { IfOk result (λ changes. length changes.items < depth) }
+    ensures selected { selected.new ≡ after_bounds S.Draws selected.old (change_bounds depth events) }
+{
+    let mut changes = ArrayVec::new();
+    if events > 0 {
+        for _point in 1..depth {
+            match selected.below(events) {
+                Ok(draw) => changes.push(draw),
+                Err(fault) => return Err(fault),
+            }
+        }
+    }
+    Ok(changes)
+}

@@ -1,0 +1,96 @@
+ghost use Rattle.std.specs.Prelude.{◌≡◌, ◌<◌, ◌≤◌, ◌∷◌, [], length};
+ghost use Rattle.surw_base.specs.declared.limits.TheConstants.{THREADS};
+ghost use Rattle.seed_draws.specs.Answers.{after_bounds, answers};
+ghost use Rattle.walk_rules.specs.Seen.{able_threads};
+ghost use Rattle.walk_rules.specs.Surw.{candidate_at, candidates, intention_bounds, intention_by, is_forced, is_intended, narrow};
+ghost use Rattle.walk_rules.specs.Walk.{GrantsAble};
+
+use crate::plain::able_at;
+use crate::{Announced, Picked, Seen};
+use arrayvec::ArrayVec;
+use draw_split::{Weights, split_one};
+use seed_draws::{DrawFault, Draws};
+use surw_base::ThreadNo;
+
+// The thread that is intended: the one before, or the thread at a drawn place of the bag of the numbers left.
+#[tactic(auto, unfolding(seed_draws::specs::Answers::answers, seed_draws::specs::Answers::after_bounds))]
+pub(crate) fn intend<S: Draws>(
+    left: &Weights,
+    intended: Option<ThreadNo>,
+    selected: &mut S,
+) -> Result<Option<ThreadNo>, DrawFault>
+    ensures found { result ≡ intention_by intended left.now (answers S.Draws selected.old (intention_bounds intended left.now)) }
+    ensures selected { selected.new ≡ after_bounds S.Draws selected.old (intention_bounds intended left.now) }
+{
+    match intended {
+        Some(thread) => Ok(Some(thread)),
+        None => {
+            if left.sum() == 0 {
+                return Ok(None);
+            }
+            match selected.below(left.sum()) {
+                Ok(draw) => {
+                    let (thread, _offset) = split_one(left.as_slice(), draw);
+                    Ok(Some(thread))
+                }
+                Err(fault) => Err(fault),
+            }
+        }
+    }
+}
+
+// Picks among the threads whose event isn't selected and the intended one, or among all where there is none of these.
+#[tactic(auto, using(crate::proofs::Able::picks, crate::proofs::SurwLaws::places), unfolding(seed_draws::specs::Answers::answers, seed_draws::specs::Answers::after_bounds))]
+pub(crate) fn choose<O: Draws>(
+    view: &Announced,
+    intended: Option<ThreadNo>,
+    other: &mut O,
+) -> Picked
+    requires { 0 < length (able_threads view.now) }
+    ensures picked { result ≡ candidate_at view.now intended (answers O.Draws other.old (length (candidates intended view.now) ∷ [])) }
+    ensures able { GrantsAble view.now result }
+    ensures other { other.new ≡ after_bounds O.Draws other.old (length (candidates intended view.now) ∷ []) }
+{
+    let narrow = narrow(view.as_slice(), &intended);
+    if narrow.len() == 0 {
+        return match other.below(view.able() as u64) {
+            Ok(draw) => Picked::Grant {
+                thread: able_at(view.as_slice(), draw),
+                forced: true,
+            },
+            Err(fault) => Picked::Stop(fault),
+        };
+    }
+    match other.below(narrow.len() as u64) {
+        Ok(draw) => Picked::Grant {
+            thread: ThreadNo::new(narrow[draw as usize]).unwrap(),
+            forced: false,
+        },
+        Err(fault) => Picked::Stop(fault),
+    }
+}
+
+// The threads that can go on whose event isn't selected, and the intended one if it can go on.
+fn narrow(view: &[Seen], intended: &Option<ThreadNo>) -> ArrayVec<u8, 16>
+    requires { length view.now ≤ THREADS }
+    ensures { result.items ≡ narrow intended.now view.now }
+{
+    let mut narrow = ArrayVec::new();
+    for (thread, seen) in view.iter().enumerate() {
+        let number = ThreadNo::new(thread as u8).unwrap();
+        if seen.is_candidate(is_intended(intended, number)) {
+            narrow.push(thread as u8);
+        }
+    }
+    narrow
+}
+
+// Whether a thread is the intended one.
+fn is_intended(intended: &Option<ThreadNo>, thread: ThreadNo) -> bool
+    ensures { result ≡ is_intended intended.now thread }
+{
+    match *intended {
+        None => false,
+        Some(other) => other == thread,
+    }
+}
