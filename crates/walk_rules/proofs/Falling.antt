@@ -1,9 +1,9 @@
 -- Threads by falling priority: the first that can go on is the highest, and where a thread goes that is given another priority.
-use Rattle.std.proofs.Common.{◌≡◌, ◌≢◌, ℕ, zero, suc, ◌+◌, ◌-◌, ◌==◌, ◌<◌, ◌≤◌, inl, inr, ltb, Bool, true, false, cond, IsTrue, List, [], ◌∷◌, ◌++◌, length, get_or, set, Option, Some, None, refl, ap, sym, ◌∙◌, subst, arith}
+use Rattle.std.proofs.Common.{◌≡◌, ◌≢◌, ℕ, zero, suc, ◌+◌, ◌==◌, ◌<◌, ◌≤◌, inl, inr, ltb, Bool, true, false, cond, IsTrue, List, [], ◌∷◌, ◌++◌, length, get_or, set, Some, None, refl, ap, sym, ◌∙◌, subst, arith}
 use Rattle.std.proofs.lemmas.Bool.{cases_lt, cases_eq, cases_Bool, eq-eqb, ne_eqb, ltb-true, ltb-false, false≢true}
 use Rattle.std.proofs.lemmas.List.{get_or-set_same, get_or-set_other}
 use Rattle.std.specs.List.{find}
-use Rattle.frame_links.specs.Lists.{times, without, with_before, list_at, taken_out, just_before, at_back}
+use Rattle.frame_links.specs.Lists.{times, without, with_before, list_at, just_before, at_back}
 use Rattle.frame_links.proofs.Times.{times-same, times-other, times-append, times-without_same, times-without_other, without-same, without-other}
 use Rattle.frame_links.proofs.Changes.{at_back-same}
 use Rattle.walk_rules.specs.Pct.{higher, highest}

@@ -1,5 +1,5 @@
 -- Grants by one draw.
-use Rattle.std.proofs.Common.{◌≡◌, ℕ, Bool, true, List, get_or, Result, Ok, Err, IsOk, refl, sym}
+use Rattle.std.proofs.Common.{◌≡◌, ℕ, Bool, true, List, get_or, Result, Ok, Err, IsOk, refl}
 use Rattle.seed_draws.specs.declared.draw_fault.DrawFault.{DrawFault}
 use Rattle.walk_rules.specs.declared.picked.Picked.TheVariants.{Grant}
 use Rattle.walk_rules.specs.declared.seen.Seen.{Seen}

@@ -1,8 +1,8 @@
 -- Putting the nodes of one list into another order, each to the back.
-use Rattle.std.proofs.Common.{◌≡◌, ◌≢◌, ℕ, zero, suc, ◌+◌, ◌-◌, ◌==◌, ◌<◌, ◌≤◌, inl, inr, Bool, true, false, cond, List, [], ◌∷◌, ◌++◌, length, take, get_or, refl, ap, sym, ◌∙◌, subst, arith}
+use Rattle.std.proofs.Common.{◌≡◌, ℕ, zero, suc, ◌+◌, ◌<◌, ◌≤◌, inl, inr, List, [], ◌∷◌, ◌++◌, length, take, get_or, refl, ap, sym, ◌∙◌, arith}
 use Rattle.std.proofs.lemmas.Bool.{cases_lt}
-use Rattle.std.proofs.lemmas.List.{take_more, take_all, length-append, append_assoc, length-take}
-use Rattle.frame_links.specs.Lists.{times, times_in, without, list_at, node_count, at_back, HasEachOnce, HasSameNodes}
+use Rattle.std.proofs.lemmas.List.{take_more, take_all, length-append, append_assoc}
+use Rattle.frame_links.specs.Lists.{times, without, list_at, node_count, at_back, HasEachOnce, HasSameNodes}
 use Rattle.frame_links.proofs.Times.{times-append, times-same, without-append, without-none}
 use Rattle.frame_links.proofs.Changes.{at_back-same}
 use Rattle.walk_rules.specs.Ranks.{IsOrder}

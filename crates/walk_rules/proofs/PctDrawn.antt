@@ -1,12 +1,12 @@
 -- The draws of the first pick, one after another.
-use Rattle.std.proofs.Common.{◌≡◌, ◌≢◌, ℕ, zero, suc, ◌+◌, ◌-◌, ◌==◌, ◌<◌, ◌≤◌, inl, inr, Bool, true, false, cond, List, [], ◌∷◌, ◌++◌, length, drop, take, get_or, sum, replicate, map, None, Result, Ok, Err, refl, ap, sym, ◌∙◌, subst, arith}
-use Rattle.std.proofs.lemmas.List.{append_assoc, append-nil, length-append, length_push}
+use Rattle.std.proofs.Common.{◌≡◌, ℕ, zero, suc, ◌+◌, ◌-◌, ◌<◌, ◌≤◌, inl, inr, Bool, cond, List, [], ◌∷◌, ◌++◌, length, drop, take, get_or, sum, replicate, map, None, Result, Ok, Err, refl, ap, sym, ◌∙◌, arith}
+use Rattle.std.proofs.lemmas.List.{append_assoc, append-nil, length_push}
 use Rattle.std.proofs.lemmas.Bool.{cases_eq, eq-eqb, ne_eqb}
 use Rattle.std.proofs.lemmas.List.Sums.{sum_by-cons}
 use Rattle.std.specs.List.{range_with_len}
 use Rattle.draw_split.specs.Bag.{less_one, pick}
 use Rattle.draw_split.specs.Named.{named_order}
-use Rattle.draw_split.proofs.Bag.{listed, placed, sum-less_one}
+use Rattle.draw_split.proofs.Bag.{placed, sum-less_one}
 use Rattle.draw_split.proofs.Named.{less_one-other, less_one-same, named_order-cons, named_order-nil, none-left}
 use Rattle.seed_draws.proofs.Asked.{after_bounds-append}
 use Rattle.seed_draws.specs.Answers.{after_bounds, answers, unless_refused, with_first}
@@ -18,7 +18,7 @@ use Rattle.seed_draws.specs.Falling.{falling}
 use Rattle.walk_rules.specs.Pct.{first_memory, found_by, pct_asked, pct_bounds, place_of}
 use Rattle.walk_rules.specs.Ranked.{Ranked}
 use Rattle.walk_rules.specs.State.{Memory, memory_of}
-use Rattle.walk_rules.specs.PctDraws.{change_bounds, draws_found, order_found}
+use Rattle.walk_rules.specs.PctDraws.{draws_found, order_found}
 use Rattle.walk_rules.specs.Ranks.{IsOrder}
 
 -- answers in front of those that follow
@@ -127,8 +127,15 @@ module _ {S : Type 0} (draws : Ghosts S) where
             sym (ap (after_bounds draws now) bounds ∙ after-cons now (sum left) (falling (sum after)) ∙ (λ i. unless_refused (answered i) (sym next_is i) (after_bounds draws (sym next_is i) (falling (sum after)))))
             ∙ to.source;
         counted = λ other. rw (after_pick, more_pick) (elim (cases_eq (pick left draw) other) as (λ _. times other (order ++ pick left draw ∷ []) + get_or (less_one left (pick left draw)) other 0 ≡ get_or (replicate threads 1) other 0) [
-          | inl same ↦ omega (arith, to.counted other, times-append other order (pick left draw ∷ []), times-same other (pick left draw) [] same, less_one-same left (pick left draw) there,
-              ap (λ n. get_or left n 0) same, ap (λ n. get_or (less_one left (pick left draw)) n 0) same)
+          | inl same ↦ omega (
+            arith,
+            to.counted other,
+            times-append other order (pick left draw ∷ []),
+            times-same other (pick left draw) [] same,
+            less_one-same left (pick left draw) there,
+            ap (λ n. get_or left n 0) same,
+            ap (λ n. get_or (less_one left (pick left draw)) n 0) same,
+          )
           | inr differ ↦ omega (arith, to.counted other, times-append other order (pick left draw ∷ []), times-other other (pick left draw) [] differ, less_one-other left (pick left draw) other differ)
         ]);
         room = omega (arith, to.room, total, ap length more_is, length_push order number);
@@ -142,8 +149,8 @@ module _ {S : Type 0} (draws : Ghosts S) where
       ap (answers draws now) bounds ∙ answers-cons now (sum left) (falling (sum left - 1)) ∙ ap (λ r. with_first r (answers draws (draws.after_answer now (sum left)) (falling (sum left - 1)))) refused in (
         found-err (replicate threads 1) (answers draws before (falling threads)) fault (sym to.found ∙ ap (λ r. prepended order (order_found left r)) whole),
         next_is
-        ∙ sym (ap (after_bounds draws now) bounds ∙ after-cons now (sum left) (falling (sum left - 1)) ∙ ap (λ r. unless_refused r (draws.after_answer now (sum left)) (after_bounds draws (draws.after_answer now (sum left)) (falling (sum left - 1)))) refused)
-        ∙ to.source,
+            ∙ sym (ap (after_bounds draws now) bounds ∙ after-cons now (sum left) (falling (sum left - 1)) ∙ ap (λ r. unless_refused r (draws.after_answer now (sum left)) (after_bounds draws (draws.after_answer now (sum left)) (falling (sum left - 1)))) refused)
+            ∙ to.source,
       )
 
   pub order-all : (before now : S) (threads : ℕ) (left order : List ℕ) → IsOrderedSo before now threads left order → sum left ≡ 0
@@ -200,8 +207,8 @@ module _ {S : Type 0} (draws : Ghosts S) where
       ap (answers draws now) bounds ∙ answers-cons now events (replicate (to.left - 1) events) ∙ ap (λ r. with_first r (answers draws (draws.after_answer now events) (replicate (to.left - 1) events))) refused in (
         sym to.found ∙ ap (prepended points) whole,
         next_is
-        ∙ sym (ap (after_bounds draws now) bounds ∙ after-cons now events (replicate (to.left - 1) events) ∙ ap (λ r. unless_refused r (draws.after_answer now events) (after_bounds draws (draws.after_answer now events) (replicate (to.left - 1) events))) refused)
-        ∙ to.source,
+            ∙ sym (ap (after_bounds draws now) bounds ∙ after-cons now events (replicate (to.left - 1) events) ∙ ap (λ r. unless_refused r (draws.after_answer now events) (after_bounds draws (draws.after_answer now events) (replicate (to.left - 1) events))) refused)
+            ∙ to.source,
       )
 
   pub points-all : (before now : S) (events many point : ℕ) (points : List ℕ) → ArePointsSo before now events many points point → many + 1 ≤ point

@@ -1,6 +1,5 @@
 -- What holds of PCT's pick.
 use Rattle.std.proofs.Common.{◌≡◌, ℕ, suc, ◌<◌, ltb, Bool, true, false, cond, IsTrue, IsOk, is_ok, Result, Ok, Err, List, [], ◌∷◌, length, get_or, refl, ap, arith}
-use Rattle.seed_draws.specs.Answers.{Answering, IsSource}
 use Rattle.seed_draws.specs.declared.draw_fault.DrawFault.{DrawFault}
 use Rattle.walk_rules.specs.declared.picked.Picked.TheVariants.{Grant}
 use Rattle.walk_rules.specs.declared.seen.Seen.{Seen}

@@ -1,27 +1,22 @@
 -- What holds of SURW's pick.
-use Rattle.std.proofs.Common.{◌≡◌, ℕ, ◌<◌, ◌==◌, ◌&&◌, ◌||◌, not, Bool, true, false, cond, IsTrue, IsOk, Result, Ok, Err, List, [], ◌∷◌, ◌++◌, ◌+◌, ◌≤◌, length, get_or, Option, Some, refl, ap, sym, subst, ◌∙◌, inl, inr, arith}
-use Rattle.std.proofs.lemmas.Bool.{cases_Bool, cond-true, cond-false, eqb-false, false≢true}
+use Rattle.std.proofs.Common.{◌≡◌, ℕ, ◌<◌, ◌&&◌, ◌||◌, not, Bool, true, false, cond, IsTrue, IsOk, Result, Ok, Err, List, [], ◌∷◌, ◌++◌, ◌+◌, ◌≤◌, length, get_or, Option, refl, ap, sym, subst, ◌∙◌, inl, inr, arith}
+use Rattle.std.proofs.lemmas.Bool.{cases_Bool, cond-true, cond-false, eqb-false}
 use Rattle.std.proofs.lemmas.List.{length-append, map-id}
 use Rattle.std.proofs.lemmas.List.FromFn.{filter_of_map_range_with_len_more}
 use Rattle.std.proofs.lemmas.List.Elements.{All-get_or, filter_passes}
-use Rattle.std.specs.List.{All, filter, range_with_len}
+use Rattle.std.specs.List.{filter, range_with_len}
 use Rattle.seed_draws.specs.Answers.{Answering, IsSource}
 use Rattle.seed_draws.specs.declared.draw_fault.DrawFault.{DrawFault}
 use Rattle.walk_rules.specs.declared.picked.Picked.TheVariants.{Grant}
 use Rattle.walk_rules.specs.declared.seen.Seen.{Seen}
 use Rattle.walk_rules.specs.Seen.{able_threads, is_able, is_chosen, seen_of}
-use Rattle.walk_rules.specs.State.{WalkState}
-use Rattle.walk_rules.specs.Surw.{candidate_at, candidate_bounds, candidates, intention_bounds, intention_by, is_forced, is_intended, narrow, surw, surw_picked}
-use Rattle.walk_rules.specs.Walk.{CanPick, GrantsAble, IsStrategy}
+use Rattle.walk_rules.specs.Surw.{candidate_at, candidate_bounds, candidates, intention_bounds, intention_by, is_forced, is_intended, is_narrow, narrow, surw, surw_picked}
+use Rattle.walk_rules.specs.Walk.{GrantsAble, IsStrategy}
 use Rattle.walk_rules.proofs.Able.{able-listed, able-place}
 
 both-first : (a b : Bool) → (a && b) ≡ true → a ≡ true
 both-first true b is = refl
 both-first false b is = is
-
--- whether a thread is a narrow candidate
-abbrev pub is_narrow : Option ℕ → List Seen → ℕ → Bool
-is_narrow intended view thread = is_able (seen_of view thread) && (not (is_chosen (seen_of view thread)) || is_intended intended thread)
 
 one-more : (test : ℕ → Bool) (n : ℕ) → filter test (range_with_len 0 (n + 1)) ≡ filter test (range_with_len 0 n) ++ cond (test n) (n ∷ []) []
 one-more test n =
@@ -45,7 +40,7 @@ narrow-more test kept now n number false is short passes same more = (
 pub narrow-able : (intended : Option ℕ) (view : List Seen) (d : ℕ) → d < length (narrow intended view) → IsTrue (is_able (seen_of view (get_or (narrow intended view) d 0)))
 unfolding narrow
 narrow-able intended view d lt =
-    let test : ℕ → Bool = λ thread. is_able (seen_of view thread) && (not (is_chosen (seen_of view thread)) || is_intended intended thread) in
+    let test : ℕ → Bool = is_narrow intended view in
     let thread : ℕ = get_or (narrow intended view) d 0 in
     both-first (is_able (seen_of view thread)) (not (is_chosen (seen_of view thread)) || is_intended intended thread)
     (All-get_or (λ t. test t ≡ true) (narrow intended view) d 0 lt (filter_passes test (range_with_len 0 (length view))))

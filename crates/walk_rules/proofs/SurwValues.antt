@@ -1,5 +1,5 @@
 -- Some picks of SURW, worked out.
-use Rattle.std.proofs.Common.{◌≡◌, ℕ, List, [], ◌∷◌, Result, Ok, Err, true, false, Option, None, Some, refl}
+use Rattle.std.proofs.Common.{◌≡◌, ℕ, List, [], ◌∷◌, true, false, Option, None, Some, refl}
 use Rattle.seed_draws.specs.declared.draw_fault.DrawFault.TheVariants.{Short}
 use Rattle.seed_draws.specs.Answers.{Answering, answers}
 use Rattle.seed_draws.specs.TapeSource.{loose_tape, strict_tape}

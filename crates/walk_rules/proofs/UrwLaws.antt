@@ -1,5 +1,5 @@
 -- What holds of URW's pick.
-use Rattle.std.proofs.Common.{◌≡◌, ℕ, ◌<◌, List, [], ◌∷◌, get_or, is_ok, refl, ap, arith}
+use Rattle.std.proofs.Common.{ℕ, ◌<◌, List, [], ◌∷◌, get_or, is_ok, refl, ap, arith}
 use Rattle.seed_draws.specs.Answers.{Answering, IsSource}
 use Rattle.walk_rules.specs.declared.seen.Seen.{Seen}
 use Rattle.walk_rules.specs.State.{WalkState}

@@ -1,7 +1,7 @@
 -- PCT: at the first pick each thread gets a priority by selected draws, and steps are drawn at which the able thread of
 -- highest priority gets a low one; the able thread of highest priority takes each step.
-use Rattle.std.specs.Prelude.{ℕ, Result, Ok, Err, ◌+◌, ◌-◌, ◌==◌, ltb, Bool, true, false, List, [], ◌∷◌, ◌++◌, drop, length, map, replicate, slice_index, slice_set, sum, take, Option, None, Some, if◌then◌else◌}
-use Rattle.std.specs.List.{find, range_with_len}
+use Rattle.std.specs.Prelude.{ℕ, Result, Ok, Err, ◌+◌, ◌-◌, ◌==◌, ltb, false, List, [], ◌∷◌, ◌++◌, drop, length, map, replicate, slice_index, slice_set, sum, take, if◌then◌else◌}
+use Rattle.std.specs.List.{range_with_len}
 use Rattle.draw_split.specs.Named.{named_order}
 use Rattle.seed_draws.specs.declared.draw_fault.DrawFault.{DrawFault}
 use Rattle.seed_draws.specs.Answers.{Answering}
@@ -13,9 +13,13 @@ use Rattle.walk_rules.specs.Seen.{able_threads}
 use Rattle.walk_rules.specs.State.{Memory, WalkState, new_memory}
 use Rattle.walk_rules.specs.Strategy.{OnePick, Strategy}
 
--- what the first pick asks: an order of all threads, and the change points where there are events
+-- what is asked for the change points: nothing where there are no events
+abbrev pub change_bounds : ℕ → ℕ → List ℕ
+change_bounds depth events = if events == 0 then [] else replicate (depth - 1) events
+
+-- what the first pick asks: an order of all threads, and the change points
 abbrev pub pct_bounds : ℕ → List ℕ → List ℕ
-pct_bounds depth counts = falling (length counts) ++ (if sum counts == 0 then [] else replicate (depth - 1) (sum counts))
+pct_bounds depth counts = falling (length counts) ++ change_bounds depth (sum counts)
 
 -- the place of a thread in an order
 unfoldable pub place_of : List ℕ → ℕ → ℕ

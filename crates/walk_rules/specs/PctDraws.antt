@@ -1,5 +1,5 @@
 -- What the first pick of PCT draws.
-use Rattle.std.specs.Prelude.{◌≡◌, ℕ, ◌-◌, ◌==◌, List, [], replicate, take, drop, length, Result, Ok, Err, if◌then◌else◌}
+use Rattle.std.specs.Prelude.{ℕ, List, drop, replicate, take, Result, Ok, Err}
 use Rattle.draw_split.specs.Named.{named_order}
 use Rattle.seed_draws.specs.declared.draw_fault.DrawFault.{DrawFault}
 
@@ -7,10 +7,6 @@ use Rattle.seed_draws.specs.declared.draw_fault.DrawFault.{DrawFault}
 abbrev pub order_found : List ℕ → Result (List ℕ) DrawFault → Result (List ℕ) DrawFault
 order_found left (Ok draws) = Ok (named_order left draws)
 order_found left (Err fault) = Err fault
-
--- what is asked for the change points
-abbrev pub change_bounds : ℕ → ℕ → List ℕ
-change_bounds depth events = if events == 0 then [] else replicate (depth - 1) events
 
 -- the order and the change points that the draws of the first pick name, or their refusal
 abbrev pub draws_found : ℕ → Result (List ℕ) DrawFault → Result (List ℕ × List ℕ) DrawFault

@@ -1,5 +1,5 @@
 -- The threads by priority, and what holds of every `Ranks`.
-use Rattle.std.specs.Prelude.{◌≡◌, ◌≢◌, ℕ, ◌+◌, ◌<◌, ◌≤◌, List, [], ◌∷◌, length, slice_index}
+use Rattle.std.specs.Prelude.{◌≡◌, ℕ, ◌<◌, ◌≤◌, List, [], ◌∷◌, length, slice_index}
 use Rattle.surw_base.specs.declared.limits.TheConstants.{THREADS}
 use Rattle.frame_links.specs.Lists.{times, list_at, node_count, HasEachOnce}
 use Rattle.walk_rules.specs.declared.ranks.Ranks.TheInside.{Inside}
@@ -14,6 +14,13 @@ pub record IsOrder (threads : ℕ) (order : List ℕ) : Type 0 where
   pub long : length order ≡ threads
   pub once : (thread : ℕ) → thread < threads → times thread order ≡ 1
   pub only : (thread : ℕ) → threads ≤ thread → times thread order ≡ 0
+
+-- links of one list, which has so many threads from the highest priority to the lowest, each once
+pub record AreByPriority (threads : ℕ) (priorities : List ℕ) (links : List (List ℕ)) : Type 0 where
+  pub one : length links ≡ 1
+  pub nodes : node_count links ≡ threads
+  pub order : IsOrder threads (list_at links 0)
+  pub falling : IsFalling priorities (list_at links 0)
 
 -- the threads are linked in one list; where there are priorities, it goes from the highest to the lowest
 pub record AreRanked (ranks : Inside) : Type 0 where

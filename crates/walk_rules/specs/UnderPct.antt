@@ -1,5 +1,5 @@
 -- What a walk keeps under PCT.
-use Rattle.std.specs.Prelude.{◌≡◌, ℕ, ◌+◌, ◌<◌, ◌≤◌, Option, None, Some, length}
+use Rattle.std.specs.Prelude.{◌≡◌, ℕ, ◌+◌, ◌<◌, Option, None, Some, length}
 use Rattle.walk_rules.specs.declared.picked.Grant.{Grant}
 use Rattle.walk_rules.specs.declared.rule.Rule.{Rule}
 use Rattle.walk_rules.specs.declared.rule.Rule.TheVariants.{Pct}
@@ -21,7 +21,7 @@ abbrev pub AreReady : ℕ → ℕ → Option Ranked → Type 0
 AreReady threads steps None = ⊥
 AreReady threads steps (Some ranks) = IsReady threads steps ranks
 
--- under PCT no thread is intended, and there are ranks
+-- under PCT no thread is intended, and there are ranks; under no other rule are there any
 abbrev pub IsUnderPct : Rule → ℕ → ℕ → Option ℕ → Option Ranked → Type 0
 IsUnderPct (Pct depth) threads steps intended ranks = IsDepth (Pct depth) × (intended ≡ None) × AreReady threads steps ranks
-IsUnderPct rule threads steps intended ranks = Unit {0}
+IsUnderPct rule threads steps intended ranks = ranks ≡ None

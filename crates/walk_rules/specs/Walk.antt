@@ -1,5 +1,5 @@
 -- A walk after a pick and after a step, and the counts that are wrong.
-use Rattle.std.specs.Prelude.{◌≡◌, ℕ, ◌+◌, ◌-◌, ◌<◌, ◌≤◌, ◌==◌, ◌&&◌, not, ltb, Bool, true, false, List, [], ◌∷◌, All, length, slice_index, Option, None, Some, if◌then◌else◌, IsOk, IsTrue}
+use Rattle.std.specs.Prelude.{◌≡◌, ℕ, ◌+◌, ◌-◌, ◌<◌, ◌≤◌, ◌==◌, ◌&&◌, not, ltb, Bool, List, All, length, slice_index, Option, None, Some, if◌then◌else◌, IsOk, IsTrue}
 use Rattle.std.specs.List.{find, range_with_len}
 use Rattle.std.specs.Option.{option_map}
 use Rattle.draw_split.specs.Bag.{less_one}

@@ -7,12 +7,12 @@ ghost use Rattle.walk_rules.specs.Seen.{is_able, is_announcing, seen_of, able_th
 use crate::Seen;
 use arrayvec::ArrayVec;
 use std::marker::Model;
-use surw_base::ThreadNo;
+use surw_base::{THREADS, ThreadNo};
 
 /// What a strategy sees of each thread. A contract sees the list.
 #[derive(Debug, Drop)]
 pub struct Announced {
-    seen: ArrayVec<Seen, 16>,
+    seen: ArrayVec<Seen, THREADS>,
     // How many threads announce an event, and how many of these events are enabled.
     announcing: usize,
     able: usize,

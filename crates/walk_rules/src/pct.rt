@@ -3,9 +3,9 @@ ghost use Rattle.draw_split.specs.Named.{named_order};
 ghost use Rattle.seed_draws.specs.Answers.{after_bounds, answers};
 ghost use Rattle.surw_base.specs.declared.limits.TheConstants.{STEPS, THREADS};
 ghost use Rattle.seed_draws.specs.Falling.{falling};
-ghost use Rattle.walk_rules.specs.Pct.{found_by, pct_asked, pct_bounds, pct_memory, pct_picked};
+ghost use Rattle.walk_rules.specs.Pct.{change_bounds, found_by, pct_asked, pct_bounds, pct_memory, pct_picked};
 ghost use Rattle.walk_rules.specs.Ranked.{IsFresh, IsReadyFor};
-ghost use Rattle.walk_rules.specs.PctDraws.{change_bounds, draws_found, order_found};
+ghost use Rattle.walk_rules.specs.PctDraws.{draws_found, order_found};
 ghost use Rattle.walk_rules.specs.State.{memory_of};
 ghost use Rattle.walk_rules.specs.Ranks.{IsOrder};
 ghost use Rattle.walk_rules.specs.Seen.{able_threads};
@@ -16,6 +16,7 @@ use crate::{Announced, Picked};
 use arrayvec::ArrayVec;
 use draw_split::{Weights, split_one};
 use seed_draws::{DrawFault, Draws};
+use surw_base::THREADS;
 
 // Makes the changes before a step, at the first one after the draws, and picks the thread of highest priority.
 pub(crate) fn pick<S: Draws>(
@@ -90,14 +91,14 @@ fn draw<S: Draws>(
     depth: u8,
     counts: &Weights,
     selected: &mut S,
-) -> Result<(ArrayVec<u8, 16>, ArrayVec<u64, 16>), DrawFault>
+) -> Result<(ArrayVec<u8, THREADS>, ArrayVec<u64, THREADS>), DrawFault>
     requires depth { (1 ≤ depth) × (depth ≤ 16) }
     ensures drawn { MatchResult result (λ drawn. draws_found (length counts.now) (answers S.Draws selected.old (pct_bounds depth counts.now)) ≡ Ok (drawn.0.items, drawn.1.items)) (λ fault. answers S.Draws selected.old (pct_bounds depth counts.now) ≡ Err fault) }
     ensures order { IfOk result (λ drawn. IsOrder (length counts.now) drawn.0.items) }
     ensures points { IfOk result (λ drawn. length drawn.1.items < depth) }
     ensures selected { selected.new ≡ after_bounds S.Draws selected.old (pct_bounds depth counts.now) }
 {
-    match draw_order(counts.threads(), selected) {
+    match draw_order(counts, selected) {
         Ok(order) => match draw_changes(depth, counts.sum(), selected) {
             Ok(changes) => Ok((order, changes)),
             Err(fault) => Err(fault),
@@ -106,15 +107,17 @@ fn draw<S: Draws>(
     }
 }
 
-// Draws an order of so many threads.
-fn draw_order<S: Draws>(threads: usize, selected: &mut S) -> Result<ArrayVec<u8, 16>, DrawFault>
-    requires { threads ≤ THREADS }
-    ensures drawn { MatchResult result (λ order. order_found (replicate threads 1) (answers S.Draws selected.old (falling threads)) ≡ Ok order.items) (λ fault. answers S.Draws selected.old (falling threads) ≡ Err fault) }
-    ensures order { IfOk result (λ order. IsOrder threads order.items) }
-    ensures selected { selected.new ≡ after_bounds S.Draws selected.old (falling threads) }
+// Draws an order of the counted threads.
+fn draw_order<S: Draws>(
+    counts: &Weights,
+    selected: &mut S,
+) -> Result<ArrayVec<u8, THREADS>, DrawFault>
+    ensures drawn { MatchResult result (λ order. order_found (replicate (length counts.now) 1) (answers S.Draws selected.old (falling (length counts.now))) ≡ Ok order.items) (λ fault. answers S.Draws selected.old (falling (length counts.now)) ≡ Err fault) }
+    ensures order { IfOk result (λ order. IsOrder (length counts.now) order.items) }
+    ensures selected { selected.new ≡ after_bounds S.Draws selected.old (falling (length counts.now)) }
 {
     let mut order = ArrayVec::new();
-    let mut left = ones(threads);
+    let mut left = ones(counts);
     while left.sum() > 0 {
         match selected.below(left.sum()) {
             Ok(draw) => {
@@ -128,17 +131,21 @@ fn draw_order<S: Draws>(threads: usize, selected: &mut S) -> Result<ArrayVec<u8,
     Ok(order)
 }
 
-// A count of 1 for each of so many threads.
-fn ones(threads: usize) -> Weights
-    requires { threads ≤ THREADS }
-    ensures { result ≡ replicate threads 1 }
+// A count of 1 for each counted thread.
+fn ones(counts: &Weights) -> Weights
+    ensures ones { result ≡ replicate (length counts.now) 1 }
+    ensures few { length counts.now ≤ THREADS }
 {
-    let all = [1; 16];
-    Weights::new(&all[..threads])
+    let all = [1; THREADS];
+    Weights::new(&all[..counts.threads()])
 }
 
 // Draws the change points below a number of events.
-fn draw_changes<S: Draws>(depth: u8, events: u64, selected: &mut S) -> Result<ArrayVec<u64, 16>, DrawFault>
+fn draw_changes<S: Draws>(
+    depth: u8,
+    events: u64,
+    selected: &mut S,
+) -> Result<ArrayVec<u64, THREADS>, DrawFault>
     requires { (1 ≤ depth) × (depth ≤ 16) }
     ensures drawn { MatchResult result (λ changes. answers S.Draws selected.old (change_bounds depth events) ≡ Ok changes.items) (λ fault. answers S.Draws selected.old (change_bounds depth events) ≡ Err fault) }
     ensures points { IfOk result (λ changes. length changes.items < depth) }

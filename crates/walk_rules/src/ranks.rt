@@ -4,7 +4,7 @@ ghost use Rattle.surw_base.specs.declared.limits.TheConstants.{THREADS, STEPS};
 ghost use Rattle.frame_links.specs.Lists.{list_at, node_count, HasEachOnce, HasSameNodes};
 ghost use Rattle.walk_rules.specs.Pct.{changed, highest, place_of};
 ghost use Rattle.walk_rules.specs.Ranked.{IsFresh};
-ghost use Rattle.walk_rules.specs.Ranks.{IsFalling, IsOrder};
+ghost use Rattle.walk_rules.specs.Ranks.{AreByPriority, IsOrder};
 ghost use Rattle.walk_rules.specs.Seen.{able_threads, is_able, seen_of};
 
 use crate::Seen;
@@ -12,7 +12,7 @@ use arrayvec::ArrayVec;
 use frame_links::Links;
 use std::alloc::Global;
 use std::marker::Model;
-use surw_base::{OutOfMemory, ThreadNo};
+use surw_base::{OutOfMemory, THREADS, ThreadNo};
 
 /// The threads by priority, and the change points.
 #[derive(Debug, Drop)]
@@ -21,13 +21,14 @@ pub(crate) struct Ranks {
     // In one list, from the highest priority to the lowest once they are drawn.
     by_priority: Links,
     // The priority of each thread.
-    priorities: ArrayVec<u32, 16>,
-    changes: ArrayVec<u64, 16>,
+    priorities: ArrayVec<u32, THREADS>,
+    changes: ArrayVec<u64, THREADS>,
 }
 
 impl Model for Ranks {
     ghost use Rattle.walk_rules.specs.Ranked.{Ranked};
     ghost use Rattle.walk_rules.specs.Ranks.{AreRanked};
+
     ghost Value = { Ranked };
 
     ghost view = { λ ranks. record { threads = ranks.threads; priorities = ranks.priorities.items; changes = ranks.changes.items } };
@@ -58,8 +59,8 @@ impl Ranks {
         Ok(Ranks {
             threads: self.threads,
             by_priority,
-            priorities: copied(self.priorities.as_slice()),
-            changes: copied_points(self.changes.as_slice()),
+            priorities: copied(&self.priorities),
+            changes: copied(&self.changes),
         })
     }
 
@@ -80,8 +81,7 @@ impl Ranks {
     /// The threads in one list, from the highest priority to the lowest, once they are drawn.
     pub(crate) fn drawn(&self) -> Option<&Links>
         ensures some { IsSome result ↔ (0 < length self.now.priorities) }
-        ensures falling { IfSome result (λ links. IsFalling self.now.priorities (list_at links.now 0)) }
-        ensures each { IfSome result (λ links. IsOrder (length self.now.priorities) (list_at links.now 0)) }
+        ensures threads { IfSome result (λ links. AreByPriority self.now.threads self.now.priorities links.now) }
     {
         if self.priorities.len() > 0 {
             Some(&self.by_priority)
@@ -91,7 +91,7 @@ impl Ranks {
     }
 
     /// Puts the threads into a drawn order, with priorities that fall to `depth`, and takes the change points.
-    pub(crate) fn put_in_order(&mut self, order: &[u8], depth: u32, changes: ArrayVec<u64, 16>)
+    pub(crate) fn put_in_order(&mut self, order: &[u8], depth: u32, changes: ArrayVec<u64, THREADS>)
         requires order { IsOrder self.old.threads order.now }
         requires depth { (1 ≤ depth) × (depth ≤ THREADS) }
         ensures threads { self.new.threads ≡ self.old.threads }
@@ -99,7 +99,7 @@ impl Ranks {
         ensures changes { self.new.changes ≡ changes.items }
     {
         in_order(&mut self.by_priority, order);
-        self.priorities = falling(order, depth);
+        self.priorities = priorities_along(order, depth);
         self.changes = changes;
     }
 
@@ -155,33 +155,18 @@ impl Ranks {
     }
 }
 
-fn set_priority(priorities: &mut ArrayVec<u32, 16>, thread: ThreadNo, priority: u32)
+fn set_priority(priorities: &mut ArrayVec<u32, THREADS>, thread: ThreadNo, priority: u32)
     requires { thread < length priorities.old.items }
     ensures { priorities.new.items ≡ slice_set priorities.old.items thread priority }
 {
     priorities[usize::from(thread.get())] = priority;
 }
 
-fn copied(priorities: &[u32]) -> ArrayVec<u32, 16>
-    requires { length priorities.now ≤ THREADS }
-    ensures { result.items ≡ priorities.now }
+// An equal list.
+fn copied<T: Copy + Default + Drop>(items: &ArrayVec<T, THREADS>) -> ArrayVec<T, THREADS>
+    ensures { result.items ≡ items.now.items }
 {
-    let mut copy = ArrayVec::new();
-    for priority in priorities {
-        copy.push(*priority);
-    }
-    copy
-}
-
-fn copied_points(points: &[u64]) -> ArrayVec<u64, 16>
-    requires { length points.now ≤ THREADS }
-    ensures { result.items ≡ points.now }
-{
-    let mut copy = ArrayVec::new();
-    for point in points {
-        copy.push(*point);
-    }
-    copy
+    ArrayVec::try_from(items.as_slice()).unwrap()
 }
 
 // The first thread of the list that can go on.
@@ -232,7 +217,7 @@ fn in_order(links: &mut Links, order: &[u8])
 }
 
 // The priorities of the threads of an order, falling to `depth` for the last.
-fn falling(order: &[u8], depth: u32) -> ArrayVec<u32, 16>
+fn priorities_along(order: &[u8], depth: u32) -> ArrayVec<u32, THREADS>
     requires few { length order.now ≤ THREADS }
     requires depth { (1 ≤ depth) × (depth ≤ THREADS) }
     ensures { result.items ≡ map (λ thread. depth - 1 + length order.now - place_of order.now thread) (range_with_len 0 (length order.now)) }

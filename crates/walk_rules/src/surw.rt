@@ -10,7 +10,7 @@ use crate::{Announced, Picked, Seen};
 use arrayvec::ArrayVec;
 use draw_split::{Weights, split_one};
 use seed_draws::{DrawFault, Draws};
-use surw_base::ThreadNo;
+use surw_base::{THREADS, ThreadNo};
 
 // The thread that is intended: the one before, or the thread at a drawn place of the bag of the numbers left.
 #[tactic(auto, unfolding(seed_draws::specs::Answers::answers, seed_draws::specs::Answers::after_bounds))]
@@ -71,7 +71,7 @@ pub(crate) fn choose<O: Draws>(
 }
 
 // The threads that can go on whose event isn't selected, and the intended one if it can go on.
-fn narrow(view: &[Seen], intended: &Option<ThreadNo>) -> ArrayVec<u8, 16>
+fn narrow(view: &[Seen], intended: &Option<ThreadNo>) -> ArrayVec<u8, THREADS>
     requires { length view.now ≤ THREADS }
     ensures { result.items ≡ narrow intended.now view.now }
 {

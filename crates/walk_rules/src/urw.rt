@@ -10,6 +10,7 @@ use crate::{Announced, Picked, Seen};
 use arrayvec::ArrayVec;
 use draw_split::{Weights, split_one};
 use seed_draws::Draws;
+use surw_base::THREADS;
 
 // Picks the thread at a drawn place of the bag of the numbers left, kept to the threads that can go on.
 #[tactic(auto, using(crate::proofs::Able::picks), unfolding(seed_draws::specs::Answers::answers, seed_draws::specs::Answers::after_bounds))]
@@ -34,7 +35,7 @@ pub(crate) fn pick<S: Draws>(left: &Weights, view: &Announced, selected: &mut S)
 }
 
 // The numbers left, with 0 for each thread that can't go on, and their sum.
-fn kept_to_able(left: &[u32], view: &[Seen]) -> (ArrayVec<u32, 16>, u64)
+fn kept_to_able(left: &[u32], view: &[Seen]) -> (ArrayVec<u32, THREADS>, u64)
     requires each { length view.now ≡ length left.now }
     requires threads { length left.now ≤ THREADS }
     requires steps { sum left.now ≤ STEPS }

@@ -2,8 +2,7 @@ ghost use Rattle.std.specs.Prelude.{◌≡◌, ◌↔◌, ◌<◌, ◌≤◌, �
 ghost use Rattle.std.specs.Option.{option_map};
 ghost use Rattle.surw_base.specs.declared.limits.TheConstants.{THREADS, STEPS};
 ghost use Rattle.seed_draws.specs.Answers.{after_bounds};
-ghost use Rattle.frame_links.specs.Lists.{list_at};
-ghost use Rattle.walk_rules.specs.Ranks.{IsFalling, IsOrder};
+ghost use Rattle.walk_rules.specs.Ranks.{AreByPriority};
 ghost use Rattle.walk_rules.specs.Seen.{able_threads};
 ghost use Rattle.walk_rules.specs.State.{new_memory, new_walk, ranked_memory};
 ghost use Rattle.walk_rules.specs.UnderPct.{IsUnderPct};
@@ -190,11 +189,11 @@ impl Walk {
         }
     }
 
-    /// Under PCT, once the priorities are drawn: links whose list 0 is the threads by priority, falling.
+    /// Under PCT, once the priorities are drawn: links whose one list has the threads from the highest priority to
+    /// the lowest. None before, and under the other rules.
     pub fn by_priority(&self) -> Option<&Links>
         ensures some { IsSome result ↔ (0 < length self.now.memory.priorities) }
-        ensures falling { IfSome result (λ links. IsFalling self.now.memory.priorities (list_at links.now 0)) }
-        ensures each { IfSome result (λ links. IsOrder (length self.now.memory.priorities) (list_at links.now 0)) }
+        ensures threads { IfSome result (λ links. AreByPriority (length self.now.counts) self.now.memory.priorities links.now) }
     {
         match &self.ranks {
             Some(ranks) => ranks.drawn(),

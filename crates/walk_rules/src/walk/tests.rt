@@ -86,8 +86,13 @@ fn view(able: [Option<bool>; 3]) -> Announced
     view
 }
 
-// The next pick, by a draw of each source. None where there is nothing to pick.
-fn next(walk: &mut Walk, view: &Announced, selected: u64, other: u64) -> Option<Picked>
+// The next pick. None where there is nothing to pick.
+fn next_from<S: Draws, O: Draws>(
+    walk: &mut Walk,
+    view: &Announced,
+    selected: &mut S,
+    other: &mut O,
+) -> Option<Picked>
     requires each { length view.now ≡ length walk.old.counts }
     requires free { walk.old.waiting ≡ None }
     requires chosen { All (λ seen. IsTrue (is_announcing seen) → IsTrue (is_chosen seen)) view.now }
@@ -97,26 +102,53 @@ fn next(walk: &mut Walk, view: &Announced, selected: u64, other: u64) -> Option<
     if step == STEPS || view.able() == 0 || walk.wrong(view).is_some() {
         return None;
     }
-    let mut selected = Fixed { draw: selected };
-    let mut other = Fixed { draw: other };
-    Some(walk.pick(step, view, &mut selected, &mut other))
+    Some(walk.pick(step, view, selected, other))
 }
 
-// Takes the next step, by the same draw of each source, if there is one to take.
-fn step(walk: &mut Walk, view: &Announced, draw: u64)
+// The next pick, by a draw of each source.
+fn next(walk: &mut Walk, view: &Announced, selected: u64, other: u64) -> Option<Picked>
     requires each { length view.now ≡ length walk.old.counts }
     requires free { walk.old.waiting ≡ None }
     requires chosen { All (λ seen. IsTrue (is_announcing seen) → IsTrue (is_chosen seen)) view.now }
-    ensures { walk.new.counts ≡ walk.old.counts }
+    ensures { MatchOption result (walk.new ≡ walk.old) (λ picked. (memory : Memory) × (walk.new ≡ after_picked walk.old memory picked)) }
 {
-    let Some(picked) = next(walk, view, draw, draw) else {
-        return;
-    };
+    let mut selected = Fixed { draw: selected };
+    let mut other = Fixed { draw: other };
+    next_from(walk, view, &mut selected, &mut other)
+}
+
+// Takes the next step, if there is one to take, and answers its pick.
+fn step_from<S: Draws, O: Draws>(
+    walk: &mut Walk,
+    view: &Announced,
+    selected: &mut S,
+    other: &mut O,
+) -> Option<Picked>
+    requires each { length view.now ≡ length walk.old.counts }
+    requires free { walk.old.waiting ≡ None }
+    requires chosen { All (λ seen. IsTrue (is_announcing seen) → IsTrue (is_chosen seen)) view.now }
+    ensures counts { walk.new.counts ≡ walk.old.counts }
+    ensures free { walk.new.waiting ≡ None }
+{
+    let picked = next_from(walk, view, selected, other)?;
     if let Picked::Grant { thread, forced } = picked {
-        if walk.left.left(thread) > 0 {
-            walk.done(thread, true, forced);
-        }
+        let chosen = walk.left.left(thread) > 0;
+        walk.done(thread, chosen, forced);
     }
+    Some(picked)
+}
+
+// Takes the next step, by the same draw of each source.
+fn step(walk: &mut Walk, view: &Announced, draw: u64) -> Option<Picked>
+    requires each { length view.now ≡ length walk.old.counts }
+    requires free { walk.old.waiting ≡ None }
+    requires chosen { All (λ seen. IsTrue (is_announcing seen) → IsTrue (is_chosen seen)) view.now }
+    ensures counts { walk.new.counts ≡ walk.old.counts }
+    ensures free { walk.new.waiting ≡ None }
+{
+    let mut selected = Fixed { draw };
+    let mut other = Fixed { draw };
+    step_from(walk, view, &mut selected, &mut other)
 }
 
 // What grants a step to the thread of this number.
@@ -208,7 +240,7 @@ fn the_least_wrong_thread_is_named(rt: HostRuntime) -> Result<(), Fail> {
 fn an_event_more_than_counted_is_wrong_with_the_number_made(rt: HostRuntime) -> Result<(), Fail> {
     let all = view([Some(true), Some(true), None]);
     let mut walk = Walk::new(rt.alloc(), Rule::Urw, Weights::new(&[1, 1, 0]))?;
-    step(&mut walk, &all, 0);
+    assert_eq!(rt; step(&mut walk, &all, 0), grant(0));
     assert_eq!(rt; walk.steps(), 1);
     let first = ThreadNo::new(0).unwrap();
     assert_eq!(rt; walk.wrong(&view([None, Some(true), None])), None);
@@ -249,34 +281,61 @@ fn asked_entries_stand_in_order(rt: HostRuntime) -> Result<(), Fail> {
 }
 
 #[test]
-fn pct_lowers_the_highest_at_its_change_point(rt: HostRuntime) -> Result<(), Fail> {
-    let mut walk = Walk::new(rt.alloc(), Rule::Pct { depth: 2 }, Weights::new(&[2, 2]))?;
-    let first = ThreadNo::new(0).unwrap();
+fn surw_forces_a_step_and_keeps_its_intention(rt: HostRuntime) -> Result<(), Fail> {
+    let held = view([Some(true), Some(false), None]);
+    let mut walk = Walk::new(rt.alloc(), Rule::Surw, Weights::new(&[1, 1, 0]))?;
     let second = ThreadNo::new(1).unwrap();
-    let mut view = Announced::new(2);
-    view.set(first, Seen::Able { chosen: true });
-    view.set(second, Seen::Able { chosen: true });
-    let mut selected = StrictTape::new(Vec::from_slice(rt.alloc(), &[1, 0, 1])?);
-    let mut other = StrictTape::new(Vec::from_slice(rt.alloc(), &[])?);
-    for (step, thread) in [second, first, first, second].iter().enumerate() {
-        assert_eq!(rt; walk.pick(step as u32, &view, &mut selected, &mut other), Picked::Grant { thread: *thread, forced: false });
-        walk.done(*thread, true, false);
-        if step == 2 {
-            view.set(first, Seen::Over);
-        }
+    let forced = Picked::Grant {
+        thread: ThreadNo::new(0).unwrap(),
+        forced: true,
+    };
+    let mut selected = Fixed { draw: 1 };
+    let mut other = Fixed { draw: 0 };
+    assert_eq!(rt;
+        step_from(&mut walk, &held, &mut selected, &mut other),
+        Some(forced)
+    );
+    assert_eq!(rt; walk.intended(), Some(second));
+    assert!(rt; walk.copy(rt.alloc())?.same(&walk));
+    Ok(())
+}
+
+// The first of the threads by priority, once these are drawn.
+fn highest(walk: &Walk) -> Option<u16> {
+    match walk.by_priority() {
+        Some(links) => links.first(0),
+        None => None,
     }
+}
+
+#[test]
+fn pct_lowers_the_highest_at_its_change_point(rt: HostRuntime) -> Result<(), Fail> {
+    let all = view([Some(true), Some(true), None]);
+    let mut walk = Walk::new(rt.alloc(), Rule::Pct { depth: 2 }, Weights::new(&[2, 2, 0]))?;
+    let mut tape = StrictTape::new(Vec::from_slice(rt.alloc(), &[1, 0, 0, 1])?);
+    let mut other = Fixed { draw: 0 };
+    assert_eq!(rt; highest(&walk), None);
+    assert_eq!(rt; step_from(&mut walk, &all, &mut tape, &mut other), grant(1));
+    assert_eq!(rt; highest(&walk), Some(1));
+    assert_eq!(rt; step_from(&mut walk, &all, &mut tape, &mut other), grant(0));
+    assert_eq!(rt; highest(&walk), Some(0));
+    assert!(rt; walk.copy(rt.alloc())?.same(&walk));
     Ok(())
 }
 
 #[test]
-fn pct_stops_where_a_draw_is_refused(rt: HostRuntime) -> Result<(), Fail> {
-    let mut walk = Walk::new(rt.alloc(), Rule::Pct { depth: 2 }, Weights::new(&[2, 2]))?;
-    let mut view = Announced::new(2);
-    view.set(ThreadNo::new(0).unwrap(), Seen::Able { chosen: true });
-    view.set(ThreadNo::new(1).unwrap(), Seen::Able { chosen: true });
-    let mut selected = StrictTape::new(Vec::from_slice(rt.alloc(), &[1])?);
-    let mut other = StrictTape::new(Vec::from_slice(rt.alloc(), &[])?);
-    assert_eq!(rt; walk.pick(0, &view, &mut selected, &mut other), Picked::Stop(DrawFault::Short { place: 1 }));
-    assert!(rt; walk.by_priority().is_none());
+fn pct_stays_as_it_was_where_a_draw_is_refused(rt: HostRuntime) -> Result<(), Fail> {
+    let all = view([Some(true), Some(true), None]);
+    let mut walk = Walk::new(rt.alloc(), Rule::Pct { depth: 2 }, Weights::new(&[2, 2, 0]))?;
+    let before = walk.copy(rt.alloc())?;
+    let mut tape = StrictTape::new(Vec::from_slice(rt.alloc(), &[1])?);
+    let mut other = Fixed { draw: 0 };
+    let short = Picked::Stop(DrawFault::Short { place: 1 });
+    assert_eq!(rt;
+        step_from(&mut walk, &all, &mut tape, &mut other),
+        Some(short)
+    );
+    assert!(rt; walk.same(&before));
+    assert_eq!(rt; highest(&walk), None);
     Ok(())
 }

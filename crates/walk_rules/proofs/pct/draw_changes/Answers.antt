@@ -1,4 +1,4 @@
-use Rattle.std.proofs.Common.{◌≡◌, ℕ, ◌-◌, ◌<◌, Bool, List, [], cond, length, replicate, Ok, ap, sym, subst, ◌∙◌, arith}
+use Rattle.std.proofs.Common.{◌-◌, Bool, [], cond, length, replicate, Ok, ap, sym, ◌∙◌, arith}
 use Rattle.std.proofs.lemmas.Bool.{eq-eqb, ne_eqb}
 use Rattle.seed_draws.specs.Answers.{after_bounds, answers}
 use Rattle.walk_rules.proofs.PctDrawn.{after-nil, answers-nil, points-all, points-more, points-refused, points-start}

@@ -1,4 +1,4 @@
-use Rattle.std.proofs.Common.{◌≡◌, ℕ, ◌+◌, ◌-◌, ◌<◌, ◌≢◌, length, map, get_or, ap, sym, subst, ◌∙◌, arith}
+use Rattle.std.proofs.Common.{◌+◌, ◌-◌, ◌≢◌, length, map, get_or, ap, sym, subst, ◌∙◌, arith}
 use Rattle.std.specs.List.{range_with_len}
 use Rattle.seed_draws.specs.Answers.{after_bounds, answers}
 use Rattle.walk_rules.specs.Pct.{place_of}
@@ -6,7 +6,7 @@ use Rattle.walk_rules.specs.PctDraws.{draws_found}
 use Rattle.walk_rules.specs.Ranked.{IsFresh}
 use Rattle.walk_rules.specs.Ranks.{IsOrder}
 use Rattle.walk_rules.specs.State.{memory_of}
-use Rattle.walk_rules.proofs.Drawn.{first-fresh, first_priorities, length-mapped}
+use Rattle.walk_rules.proofs.Drawn.{first-fresh, length-mapped}
 use Rattle.walk_rules.proofs.PctDrawn.{after-nil, first-asks, first-found, later-asks, later-found}
 use Rattle.walk_rules.proofs.pct.ready.Goals as goal
 

@@ -1,4 +1,4 @@
-use Rattle.std.proofs.Common.{ℕ, Bool, true, false, ltb, get_or, length, Option, Some, None, ap, sym, subst, ◌∙◌, arith}
+use Rattle.std.proofs.Common.{ltb, get_or, Some, subst, arith}
 use Rattle.frame_links.specs.Lists.{list_at}
 use Rattle.walk_rules.proofs.Searched.{IsSearchTo, at-most-once, high-is, low-is, search-first, search-found, search-link, search-next, search-node, search-none, search-smaller}
 use Rattle.walk_rules.proofs.ranks.first_lower.Goals as goal

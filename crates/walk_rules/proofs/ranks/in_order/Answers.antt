@@ -1,4 +1,4 @@
-use Rattle.std.proofs.Common.{ℕ, length, ap, sym, ◌∙◌, arith}
+use Rattle.std.proofs.Common.{ap, ◌∙◌, arith}
 use Rattle.frame_links.specs.Lists.{at_back}
 use Rattle.walk_rules.proofs.Ordered.{ordered-all, ordered-first, ordered-next, ordered-node}
 use Rattle.walk_rules.proofs.ranks.in_order.Goals as goal

@@ -1,4 +1,4 @@
-use Rattle.std.proofs.Common.{◌≡◌, ℕ, ◌+◌, ◌-◌, List, length, ap, sym, subst, ◌∙◌, arith}
+use Rattle.std.proofs.Common.{ℕ, ◌+◌, ◌-◌, length, ap, sym, subst, ◌∙◌, arith}
 use Rattle.frame_links.specs.Lists.{list_at}
 use Rattle.walk_rules.specs.Pct.{place_of}
 use Rattle.walk_rules.specs.Ranked.{Ranked}
@@ -14,11 +14,11 @@ invariant_of-self c =
       few = c.self.invariant.few;
       each_once = c.in_order.ensures.same_nodes.each_once;
       drawn = λ some.
-          ap length c.falling-self-inside.ensures
+          ap length c.priorities_along-self-inside.ensures
           ∙ length-mapped (λ thread. c.args.depth - 1 + length c.args.order.now - place_of c.args.order.now thread) 0 (length c.args.order.now)
           ∙ c.requires.order.long ∙ sym (ap (λ (r : Ranked). r.threads) c.self.view_is);
       falling = λ long.
-          subst (λ p. IsFalling p (list_at c.in_order.new.links 0)) (sym c.falling-self-inside.ensures)
+          subst (λ p. IsFalling p (list_at c.in_order.new.links 0)) (sym c.priorities_along-self-inside.ensures)
           (subst (λ l. IsFalling (first_priorities (c.args.depth - 1 + length c.args.order.now) c.args.order.now) l) (sym c.in_order.ensures.list)
           (first-falling (c.args.depth - 1 + length c.args.order.now) c.args.order.now each (omega arith)));
     }

@@ -1,4 +1,4 @@
-use Rattle.std.proofs.Common.{arith, refl, IsSome, ap, ◌∙◌, is_some}
+use Rattle.std.proofs.Common.{refl, IsSome, ap, ◌∙◌, is_some}
 use Rattle.walk_rules.specs.declared.walk.Walk.TheInside.{Inside}
 use Rattle.walk_rules.specs.State.{WalkState}
 use Rattle.walk_rules.proofs.Told.{idle-after, told-same, told-less}

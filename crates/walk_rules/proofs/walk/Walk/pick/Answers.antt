@@ -1,8 +1,8 @@
-use Rattle.std.proofs.Common.{ℕ, ◌<◌, List, ap, sym, subst, ◌∙◌, refl}
+use Rattle.std.proofs.Common.{ℕ, ◌<◌, List, ap, sym, subst, ◌∙◌}
 use Rattle.walk_rules.specs.State.{WalkState}
 use Rattle.walk_rules.specs.Strategies.{counts_down, wants_every}
 use Rattle.walk_rules.specs.Urw.{urw_bound}
-use Rattle.walk_rules.specs.Walk.{wrong_by, AreChosen}
+use Rattle.walk_rules.specs.Walk.{wrong_by}
 use Rattle.walk_rules.proofs.Wrong.{urw-some}
 use Rattle.walk_rules.proofs.walk.Walk.pick.Goals as goal
 
