@@ -1,0 +1,127 @@
+// The text of a run.
+use super::*;
+
+fn push_number(out: &mut Vec<u8>, mut n: u64) {
+    if n < 10 {
+        out.push(b'0' + n as u8);
+        return;
+    }
+    let mut digits = [0u8; 20];
+    let mut at = 20;
+    loop {
+        at -= 1;
+        digits[at] = b'0' + (n % 10) as u8;
+        n /= 10;
+        if n == 0 {
+            break;
+        }
+    }
+    out.extend_from_slice(&digits[at..]);
+}
+
+fn push_list(out: &mut Vec<u8>, word: &str, numbers: impl IntoIterator<Item = u64>) {
+    out.extend_from_slice(word.as_bytes());
+    for number in numbers {
+        out.push(b' ');
+        push_number(out, number);
+    }
+    out.push(b'\n');
+}
+
+fn push_event(out: &mut Vec<u8>, event: &Event) {
+    let (_, text, numbers) = VERBS[event.verb as usize];
+    out.extend_from_slice(text.as_bytes());
+    for number in &event.args[..numbers] {
+        out.push(b' ');
+        push_number(out, *number);
+    }
+}
+
+#[inline(never)]
+pub fn report(run: &Run, monitors: &[Monitor]) -> Vec<u8> {
+    let mut out = Vec::with_capacity(1024 + 40 * run.journal.len());
+    let step = run.journal.len() as u64;
+    match run.verdict {
+        Verdict::Ended => out.extend_from_slice(b"verdict ended\n"),
+        Verdict::Deadlock => push_list(&mut out, "verdict deadlock", [step]),
+        Verdict::WrongCount { thread, counted, seen } => {
+            push_list(&mut out, "verdict wrong_count", [step, thread as u64, counted, seen]);
+        }
+        Verdict::Short { place } => {
+            out.extend_from_slice(b"verdict draw ");
+            push_number(&mut out, step);
+            push_list(&mut out, " short", [place as u64]);
+        }
+        Verdict::Large { place, kept, below } => {
+            out.extend_from_slice(b"verdict draw ");
+            push_number(&mut out, step);
+            push_list(&mut out, " large", [place as u64, kept, below]);
+        }
+        Verdict::StepLimit => push_list(&mut out, "verdict step_limit", [step]),
+    }
+    let selected = run.journal.iter().filter(|entry| entry.chosen).count();
+    let switches = run.journal.windows(2).filter(|pair| pair[0].thread != pair[1].thread).count();
+    push_list(&mut out, "steps", [step]);
+    push_list(&mut out, "selected", [selected as u64]);
+    push_list(&mut out, "forced", [run.journal.iter().filter(|entry| entry.forced).count() as u64]);
+    out.extend_from_slice(b"bent 0\n");
+    push_list(&mut out, "switches", [switches as u64]);
+    let order = run.journal.iter().filter(|entry| entry.chosen).map(|entry| u64::from(entry.thread));
+    push_list(&mut out, "order", order);
+    for (thread, event) in run.announced.iter().enumerate() {
+        if let Some(event) = event {
+            out.extend_from_slice(b"next ");
+            push_number(&mut out, thread as u64);
+            out.push(b' ');
+            push_event(&mut out, event);
+            out.push(b'\n');
+        }
+    }
+    push_list(&mut out, "cells", run.cells.iter().copied());
+    out.extend_from_slice(b"locks");
+    for holder in &run.holders {
+        out.push(b' ');
+        match holder {
+            Some(thread) => push_number(&mut out, *thread as u64),
+            None => out.push(b'-'),
+        }
+    }
+    out.extend_from_slice(b"\nfree\nclean\ndirty\npages\nslots\nmark 0\n");
+    push_list(&mut out, "checks", [run.checks]);
+    for (monitor, failed) in monitors.iter().zip(&run.failed) {
+        out.extend_from_slice(b"monitor ");
+        let mut judged = true;
+        match monitor {
+            Monitor::WriteAhead => out.extend_from_slice(b"write_ahead"),
+            Monitor::LogWhole => out.extend_from_slice(b"log_whole"),
+            Monitor::Expect => out.extend_from_slice(b"expect"),
+            Monitor::CellEnd { cell, value } => {
+                out.extend_from_slice(b"cell_end ");
+                push_number(&mut out, *cell as u64);
+                out.push(b' ');
+                push_number(&mut out, *value);
+                judged = matches!(run.verdict, Verdict::Ended);
+            }
+        }
+        match failed {
+            Some(after) => push_list(&mut out, " failed after", [*after as u64]),
+            None if judged => out.extend_from_slice(b" held\n"),
+            None => out.extend_from_slice(b" unjudged\n"),
+        }
+    }
+    for (step, entry) in run.journal.iter().enumerate() {
+        out.extend_from_slice(b"step ");
+        push_number(&mut out, step as u64);
+        out.push(b' ');
+        push_number(&mut out, u64::from(entry.thread));
+        out.push(b' ');
+        push_event(&mut out, &entry.event);
+        out.extend_from_slice(b" = ");
+        push_number(&mut out, entry.reply);
+        if entry.forced {
+            out.extend_from_slice(b" forced");
+        }
+        out.push(b'\n');
+    }
+    out
+}
