@@ -1,5 +1,5 @@
 -- While a run under SURW goes on, the choice is the one by the numbers of candidates at all positions up to it.
-use Rattle.std.proofs.Common.{◌≡◌, ℕ, suc, ◌+◌, ◌<◌, Bool, List, [], ◌∷◌, ◌++◌, length, map, get_or, Option, Result, Ok, Err, refl, ap, sym, subst, ◌∙◌, arith}
+use Rattle.std.proofs.Common.{◌≡◌, ℕ, suc, ◌<◌, Bool, List, [], ◌∷◌, ◌++◌, length, map, get_or, Option, Result, Ok, Err, refl, ap, sym, subst, ◌∙◌, arith}
 use Rattle.std.proofs.lemmas.List.{get_or-drop, length-map, map-append}
 use Rattle.std.proofs.lemmas.List.FromFn.{get_or-map-range_with_len}
 use Rattle.seed_draws.specs.declared.draw_fault.DrawFault.{DrawFault}
@@ -82,7 +82,8 @@ chosen-at setup x (Err fault) is before =
 chosen-at setup x (Ok intended) is before =
     let here : surw_other_at setup x ≡ candidates_at setup x ∷ [] = one-asked setup x (record { intended = intended; is = is }) in
     let asked : List ℕ = map (candidates_at setup) (earlier x) in
-    let all : asked ++ candidates_at setup x ∷ [] ≡ map (candidates_at setup) (earlier x ++ x ∷ []) = sym (map-append (candidates_at setup) (earlier x) (x ∷ [])) in
+    let all : asked ++ candidates_at setup x ∷ [] ≡ map (candidates_at setup) (earlier x ++ x ∷ []) =
+    sym (map-append (candidates_at setup) (earlier x) (x ∷ [])) in
     let long : length asked ≡ length x.journal = length-map (earlier x) (candidates_at setup) ∙ length-earlier x in
     ap (λ found. surw_picked (seen_at setup x) found (answers_at setup.other.answers (surw_other_at setup) x)) is
     ∙ (λ i. candidate_at (seen_at setup x) intended (without_first (length (before i)) (setup.other.answers (before i ++ here i))))

@@ -2,51 +2,51 @@
 use Rattle.std.proofs.Common.{◌≡◌, ℕ, zero, suc, ◌+◌, ◌<◌, ◌≤◌, true, false, List, [], ◌∷◌, ◌++◌, length, map, sum, take, drop, set, get_or, Option, None, Some, ap, sym, subst, ◌∙◌, arith}
 use Rattle.std.proofs.Math.Seq.{take-length}
 use Rattle.std.proofs.lemmas.Bool.{and_parts}
-use Rattle.std.proofs.lemmas.List.{append-nil, get_or-set_same, length-set}
-use Rattle.std.proofs.lemmas.Option.{none-some, same_Some}
+use Rattle.std.proofs.lemmas.List.{append-nil, drop_more, get_or-set_same, length-set}
+use Rattle.std.proofs.lemmas.Option.{get_or_from_slice_get, slice_get_within}
 use Rattle.std.specs.List.{slice_get}
-use Rattle.event_class.specs.declared.event.Event.{Event}
 use Rattle.draw_split.specs.Named.{named_order}
 use Rattle.draw_split.proofs.Named.{AreGood, draw_list, good-nil, named_order-nil}
+use Rattle.seed_draws.specs.Answers.{IsSource}
+use Rattle.seed_draws.specs.Falling.{falling}
+use Rattle.event_class.specs.declared.event.Event.{Event}
 use Rattle.walk_rules.specs.declared.picked.Picked.TheVariants.{Grant}
 use Rattle.walk_rules.specs.declared.rule.Rule.{Rule}
 use Rattle.walk_rules.specs.declared.rule.Rule.TheVariants.{Surw}
 use Rattle.walk_rules.specs.Seen.{is_able, seen_of}
 use Rattle.run_rules.specs.declared.entry.Entry.{Entry}
+use Rattle.run_rules.specs.Choice.{choice, choices}
 use Rattle.run_rules.specs.Made.{selected_order}
 use Rattle.run_rules.specs.Position.{Position, words_before, position_at, seen_at}
-use Rattle.run_rules.specs.Choice.{choice, choices}
 use Rattle.run_rules.specs.Run.{GoesOn}
 use Rattle.run_rules.specs.Setup.{Setup}
+use Rattle.run_rules.specs.SurwChoice.{surw_choice}
 use Rattle.run_rules.proofs.Fronts.{IsNext, next-at}
 use Rattle.run_rules.proofs.Words.{has-word}
 use Rattle.selected_order.specs.SelectedOrder.{IsUnforced, IsInDrawnOrder, EndsInOrder}
-use Rattle.run_rules.specs.SurwChoice.{surw_choice}
-use Rattle.seed_draws.specs.Answers.{IsSource}
-use Rattle.seed_draws.specs.Falling.{falling}
-use Rattle.selected_order.proofs.Ends.{ended-parts, none-left}
-use Rattle.selected_order.proofs.Grants.{surw-narrow}
 use Rattle.selected_order.proofs.InOrder.{IsInOrder, left_of, in-order-none, in-order-more}
-
-drop-at : {X : Type 0} (xs : List X) (k : ℕ) (x : X) → slice_get xs k ≡ Some x → drop k xs ≡ x ∷ drop (suc k) xs
-drop-at [] k x at = absurd (none-some x at)
-drop-at (y ∷ xs) zero x at = ap (λ z. z ∷ xs) (same_Some y x at)
-drop-at (y ∷ xs) (suc k) x at = drop-at xs k x at
+use Rattle.selected_order.proofs.NoneLeft.{ended-parts, none-left}
+use Rattle.selected_order.proofs.UnforcedGrants.{surw-narrow}
 
 -- before an entry the word of its thread is its event
 word-set : (words : List (Option Event)) (entry : Entry) → entry.thread < length (set words entry.thread (Some entry.event))
     → get_or (set words entry.thread (Some entry.event)) entry.thread None ≡ Some entry.event
-word-set words entry within = get_or-set_same words entry.thread (Some entry.event) None (omega (arith, within, length-set words entry.thread (Some entry.event)))
+word-set words entry within =
+    get_or-set_same words entry.thread (Some entry.event) None (omega (arith, within, length-set words entry.thread (Some entry.event)))
 
 pub word-at : (x : Position) (k : ℕ) (entry : Entry) → slice_get x.journal k ≡ Some entry → entry.thread < length (position_at x k).words
     → get_or (position_at x k).words entry.thread None ≡ Some entry.event
 unfolding position_at words_before
 word-at x k entry at within =
-    let cut : words_before (drop k x.journal) x.words ≡ set (words_before (drop (suc k) x.journal) x.words) entry.thread (Some entry.event) =
-    ap (λ entries. words_before entries x.words) (drop-at x.journal k entry at) in
-    let long : entry.thread < length (set (words_before (drop (suc k) x.journal) x.words) entry.thread (Some entry.event)) =
+    let after : List (Option Event) = words_before (drop (k + 1) x.journal) x.words in
+    let first : drop k x.journal ≡ entry ∷ drop (k + 1) x.journal =
+    drop_more x.journal k entry (slice_get_within x.journal k entry at)
+    ∙ ap (λ e. e ∷ drop (k + 1) x.journal) (get_or_from_slice_get x.journal k entry entry at) in
+    let cut : words_before (drop k x.journal) x.words ≡ set after entry.thread (Some entry.event) =
+    ap (λ entries. words_before entries x.words) first in
+    let long : entry.thread < length (set after entry.thread (Some entry.event)) =
     omega (arith, within, ap (λ (words : List (Option Event)). length words) cut) in
-    ap (λ words. get_or words entry.thread None) cut ∙ word-set (words_before (drop (suc k) x.journal) x.words) entry long
+    ap (λ words. get_or words entry.thread None) cut ∙ word-set after entry long
 
 -- the thread of an unforced step is able
 pub unforced-able : (setup : Setup) (x : Position) (thread : ℕ) → IsSource setup.other.answers → surw_choice setup x ≡ Grant thread false
@@ -59,8 +59,8 @@ unforced-able setup x thread other granted =
 pub choice-is : (setup : Setup) (x : Position) → setup.rule ≡ Surw → choice setup x ≡ surw_choice setup x
 choice-is setup x rule = ap (λ (r : Rule). (choices r).choice_at setup x) rule
 
-in-order-at : (setup : Setup) (x : Position) → setup.rule ≡ Surw → IsSource setup.selected.answers → IsSource setup.other.answers → GoesOn setup x → IsUnforced x.journal
-    → (k : ℕ) → k ≤ length x.journal → IsInOrder setup (take k x.journal)
+in-order-at : (setup : Setup) (x : Position) → setup.rule ≡ Surw → IsSource setup.selected.answers → IsSource setup.other.answers
+    → GoesOn setup x → IsUnforced x.journal → (k : ℕ) → k ≤ length x.journal → IsInOrder setup (take k x.journal)
 unfolding position_at
 in-order-at setup x rule selected other going unforced zero within = in-order-none setup selected.none
 in-order-at setup x rule selected other going unforced (suc k) within =
@@ -76,8 +76,8 @@ in-order-at setup x rule selected other going unforced (suc k) within =
     subst (IsInOrder setup) (sym next.cut ∙ ap (λ n. take n x.journal) one)
     (in-order-more setup here entry selected other before plain chosen word)
 
-pub in-order-all : (setup : Setup) (x : Position) → setup.rule ≡ Surw → IsSource setup.selected.answers → IsSource setup.other.answers → GoesOn setup x → IsUnforced x.journal
-    → IsInOrder setup x.journal
+pub in-order-all : (setup : Setup) (x : Position) → setup.rule ≡ Surw → IsSource setup.selected.answers → IsSource setup.other.answers
+    → GoesOn setup x → IsUnforced x.journal → IsInOrder setup x.journal
 in-order-all setup x rule selected other going unforced =
     subst (IsInOrder setup) (take-length x.journal) (in-order-at setup x rule selected other going unforced (length x.journal) (omega arith))
 
@@ -97,7 +97,9 @@ drawn-all setup journal is none =
       answered = ap setup.selected.answers (sym all) ∙ is.answered;
       gives = record {
         list = draw_list setup.counts is.draws (subst (λ draws. AreGood setup.counts draws) (append-nil is.draws) (is.good [] (good-nil left none)));
-        order_named = sym (ap (named_order setup.counts) (sym (append-nil is.draws)) ∙ is.named [] ∙ ap (λ rest. order ++ rest) (named_order-nil left) ∙ append-nil order);
+        order_named = sym
+            (ap (named_order setup.counts) (sym (append-nil is.draws)) ∙ is.named []
+            ∙ ap (λ rest. order ++ rest) (named_order-nil left) ∙ append-nil order);
       };
     }
 

@@ -8,6 +8,8 @@ use Rattle.std.proofs.lemmas.List.Folds.{list_any_at, list_any_none}
 use Rattle.std.proofs.lemmas.Option.{same_Some, slice_get_within}
 use Rattle.std.specs.List.{list_any, slice_get}
 use Rattle.std.specs.Option.{option_map, is_some}
+use Rattle.seed_draws.specs.Answers.{IsSource, NeverRefuses}
+use Rattle.seed_draws.specs.Falling.{falling}
 use Rattle.walk_rules.specs.declared.picked.Picked.TheVariants.{Grant}
 use Rattle.walk_rules.specs.declared.rule.Rule.TheVariants.{Surw}
 use Rattle.walk_rules.specs.declared.seen.Seen.{Seen}
@@ -15,28 +17,28 @@ use Rattle.walk_rules.specs.declared.seen.Seen.TheVariants.{Over}
 use Rattle.walk_rules.specs.Seen.{is_able, seen_of}
 use Rattle.run_rules.specs.declared.entry.Entry.{Entry}
 use Rattle.run_rules.specs.declared.verdict.Verdict.{Verdict}
-use Rattle.run_rules.specs.declared.verdict.Verdict.TheVariants.{Ended, Deadlock, WrongCount, StepLimit}
+use Rattle.run_rules.specs.declared.verdict.Verdict.TheVariants.{Ended, Deadlock, StepLimit}
+use Rattle.run_rules.specs.Choice.{choice}
 use Rattle.run_rules.specs.Legal.{IsLegal}
-use Rattle.run_rules.specs.Made.{events_made}
 use Rattle.run_rules.specs.Position.{Position, position_of, seen_at}
 use Rattle.run_rules.specs.Setup.{Setup, Script}
 use Rattle.run_rules.specs.Told.{said}
-use Rattle.run_rules.specs.Choice.{choice}
 use Rattle.run_rules.specs.Verdict.{verdict_at, wrong_count, ended, step_limit, deadlock, refused, first_of}
 use Rattle.run_rules.proofs.Fronts.{AtEach, IsNext, next-at, each-front}
+use Rattle.run_rules.proofs.Goings.{GoesOnAfter, going-fronts}
 use Rattle.run_rules.proofs.Scripts.{legal-front, length-words}
+use Rattle.run_rules.proofs.Verdicts.{grant-parts, none-verdict, verdict-none}
 use Rattle.run_rules.proofs.Words.{some-able, has-word, length-seen}
 use Rattle.selected_order.specs.SurwScript.{HasEnded, IsTame, EndsUnforced}
-use Rattle.seed_draws.specs.Answers.{IsSource, NeverRefuses}
-use Rattle.seed_draws.specs.Falling.{falling}
 use Rattle.selected_order.proofs.Completions.{HasSaid, some-said, step_of, step-legal}
-use Rattle.selected_order.proofs.Ends.{wrong-is}
 use Rattle.selected_order.proofs.EndsInOrder.{choice-is, unforced-able}
-use Rattle.run_rules.proofs.Goings.{GoesOnAfter, going-fronts}
-use Rattle.run_rules.proofs.Verdicts.{grant-parts, none-verdict, verdict-none}
-use Rattle.selected_order.proofs.Goes.{no-deadlock}
+use Rattle.selected_order.proofs.FreeChoice.{IsFreeChoice, free-choice, other-answers}
 use Rattle.selected_order.proofs.InOrder.{IsInOrder, in-order-none, in-order-more}
-use Rattle.selected_order.proofs.Unforced.{none-miscounted, word-of, seen-able, IsFreeChoice, has-narrow, free-choice, other-answers}
+use Rattle.selected_order.proofs.NarrowCandidates.{has-narrow}
+use Rattle.selected_order.proofs.NoDeadlock.{no-deadlock}
+use Rattle.selected_order.proofs.NoneLeft.{wrong_of, wrong-is}
+use Rattle.selected_order.proofs.RightCounts.{none-miscounted}
+use Rattle.selected_order.proofs.SaidWords.{seen-able, word-of}
 
 -- what is asked of a script and its sources
 pub record IsDrawable (script : Script) : Type 0 where
@@ -54,12 +56,14 @@ said-able : (script : Script) (journal : List Entry) → IsTame script → IsLeg
 said-able script journal tame legal going =
     let x : Position = position_of script journal in
     let view : List Seen = seen_at script.setup x in
-    let able : is_able (seen_of view going.thread) ≡ true = ap is_able (seen-able script journal going.thread going.event tame legal going.within going.is) in
+    let able : is_able (seen_of view going.thread) ≡ true =
+    ap is_able (seen-able script journal going.thread going.event tame.free legal going.within going.is) in
     let some : list_any is_able view ≡ true =
     list_any_at is_able view going.thread Over (omega (arith, going.within, length-seen script.setup x, length-words script journal)) able in
     cond-true (list_any is_able view) None (Some (Deadlock (length x.journal))) some
 
-able-said : (script : Script) (journal : List Entry) → deadlock script.setup (position_of script journal) ≡ None → HasSaid (said script journal) script.setup.threads
+able-said : (script : Script) (journal : List Entry) → deadlock script.setup (position_of script journal) ≡ None
+    → HasSaid (said script journal) script.setup.threads
 able-said script journal going =
     let x : Position = position_of script journal in
     let able = some-able script.setup x going in
@@ -95,7 +99,8 @@ front-next script journal k is legal fronts lt before =
     let entry : Entry = next.item in
     let goes = fronts k entry next.there in
     let going = able-said script front (verdict-none setup x goes.going).3 in
-    let free : IsFreeChoice setup x = free-after script front is (legal-front script journal k legal) (each-front (GoesOnAfter script) journal k fronts) before.order going in
+    let earlier = each-front (GoesOnAfter script) journal k fronts in
+    let free : IsFreeChoice setup x = free-after script front is (legal-front script journal k legal) earlier before.order going in
     let chosen = sym (choice-is setup x is.rule) ∙ goes.chosen in
     let grant = grant-parts entry.thread free.thread entry.forced false (sym chosen ∙ free.chosen) in
     let able = unforced-able setup x entry.thread is.other (chosen ∙ ap (Grant entry.thread) grant.1) in
@@ -103,7 +108,8 @@ front-next script journal k is legal fronts lt before =
     let word : get_or x.words entry.thread None ≡ Some entry.event = word-of script front entry.thread within ∙ (legal k entry next.there).announced in
     let one : k + 1 ≡ suc k = omega arith in
     record {
-      order = subst (IsInOrder setup) (sym next.cut ∙ ap (λ n. take n journal) one) (in-order-more setup x entry is.selected is.other before.order grant.1 chosen word);
+      order = subst (IsInOrder setup) (sym next.cut ∙ ap (λ n. take n journal) one)
+          (in-order-more setup x entry is.selected is.other before.order grant.1 chosen word);
       plain = λ j other below at. elim (cases_lt j k) [
         | inl early ↦ before.plain j other early at
         | inr late ↦
@@ -122,17 +128,12 @@ front-at script journal (suc k) is legal fronts within =
 
 -- ---- the verdict
 
-none-first : (verdict : Option Verdict) (rest : List (Option Verdict)) → verdict ≡ None → first_of (verdict ∷ rest) ≡ first_of rest
-none-first verdict rest none = ap (λ v. first_of (v ∷ rest)) none
-
 none-wrong : (script : Script) (journal : List Entry) → script.setup.rule ≡ Surw → IsTame script → IsLegal script journal
     → wrong_count script.setup (position_of script journal) ≡ None
 none-wrong script journal rule tame legal =
     let setup : Setup = script.setup in
     let x : Position = position_of script journal in
-    wrong-is setup x rule
-    ∙ ap (λ found. option_map (λ thread. WrongCount (length x.journal) thread (get_or setup.counts thread 0) (events_made setup.selection x.journal thread)) found)
-    (none-miscounted script journal tame legal)
+    wrong-is setup x rule ∙ ap (option_map (wrong_of setup x)) (none-miscounted script journal tame legal)
 
 -- where each thread has ended
 pub verdict-ended : (script : Script) (journal : List Entry) → script.setup.rule ≡ Surw → IsTame script → IsLegal script journal → HasEnded script journal
@@ -146,7 +147,7 @@ verdict-ended script journal rule tame legal none =
     list_any_none is_some x.words (All-from_get_or (λ word. is_some word ≡ false) x.words None (λ k lt.
     let below : k < setup.threads = omega (arith, lt, length-words script journal) in
     ap is_some (word-of script journal k below ∙ none k below))) in
-    none-first (wrong_count setup x) (ended x ∷ later) (none-wrong script journal rule tame legal)
+    ap (λ v. first_of (v ∷ ended x ∷ later)) (none-wrong script journal rule tame legal)
     ∙ ap (λ v. first_of (v ∷ later)) (cond-false (list_any is_some x.words) None (Some Ended) words)
 
 -- where one announces an event
@@ -159,7 +160,8 @@ verdict-going script journal rule tame legal going free =
     let x : Position = position_of script journal in
     let entry : Entry = step_of script journal going.thread going.event in
     let shorter : length journal ≢ setup.max_steps = λ full.
-    omega (arith, full, length_push journal entry, tame.short (journal ++ entry ∷ []) (step-legal script journal going.thread going.event tame.free legal going.within going.is)) in
+    let more = step-legal script journal going.thread going.event tame.free legal going.within going.is in
+    omega (arith, full, length_push journal entry, tame.short (journal ++ entry ∷ []) more) in
     let word : list_any is_some x.words ≡ true =
     list_any_at is_some x.words going.thread None (omega (arith, going.within, length-words script journal))
     (ap is_some (word-of script journal going.thread going.within ∙ going.is)) in

@@ -11,20 +11,20 @@ use Rattle.draw_split.proofs.Bijection.{no-other-listed, equally-many}
 use Rattle.seed_draws.specs.Falling.{falling}
 use Rattle.seed_draws.specs.TapeSource.{strict_tape}
 use Rattle.seed_draws.proofs.Tapes.{loose-never, loose-source, strict-drawn, strict-source}
+use Rattle.walk_rules.specs.declared.rule.Rule.TheVariants.{Surw}
 use Rattle.run_rules.specs.declared.entry.Entry.{Entry}
 use Rattle.run_rules.specs.Legal.{IsLegal}
 use Rattle.run_rules.specs.Made.{selected_order}
 use Rattle.run_rules.specs.Position.{position_of}
-use Rattle.walk_rules.specs.declared.rule.Rule.TheVariants.{Surw}
 use Rattle.run_rules.specs.Run.{IsRunJournal}
-use Rattle.run_rules.specs.Setup.{Script}
+use Rattle.run_rules.specs.Setup.{Script, IsValid}
+use Rattle.run_rules.proofs.Exists.{run-exists}
 use Rattle.run_rules.proofs.Scripts.{length-words}
 use Rattle.selected_order.specs.EveryOrder.{with_tapes, EveryOrderOf, OrdersComeEquallyOftenOf}
 use Rattle.selected_order.specs.SelectedOrder.{IsInDrawnOrder}
 use Rattle.selected_order.specs.SurwScript.{IsTame}
 use Rattle.selected_order.proofs.EndsInOrder.{ends-in-order}
 use Rattle.selected_order.proofs.EndsUnforced.{IsDrawable, ends-unforced}
-use Rattle.selected_order.proofs.RunExists.{surw-run}
 
 -- a strict tape of a draw list answers with it
 list-drawn : (counts draws : List ℕ) → IsDrawList counts draws → (strict_tape draws).answers (falling (sum counts)) ≡ Ok draws
@@ -47,7 +47,8 @@ tame-tapes script draws others tame = record {
 }
 
 -- what the theorem asks, on these tapes
-drawable : (script : Script) (others draws : List ℕ) → script.setup.rule ≡ Surw → IsTame script → IsDrawList script.setup.counts draws → IsDrawable (with_tapes script draws others)
+drawable : (script : Script) (others draws : List ℕ) → script.setup.rule ≡ Surw → IsTame script → IsDrawList script.setup.counts draws
+    → IsDrawable (with_tapes script draws others)
 drawable script others draws rule tame list = record {
   rule = rule;
   tame = tame-tapes script draws others tame;
@@ -57,8 +58,9 @@ drawable script others draws rule tame list = record {
   never = loose-never (record { entries = others; taken = 0 });
 }
 
-drawn-order : (script : Script) (others draws : List ℕ) (journal : List Entry) → script.setup.rule ≡ Surw → IsTame script → IsDrawList script.setup.counts draws
-    → IsRunJournal (with_tapes script draws others) journal → IsInDrawnOrder (with_tapes script draws others).setup journal
+drawn-order : (script : Script) (others draws : List ℕ) (journal : List Entry) → script.setup.rule ≡ Surw → IsTame script
+    → IsDrawList script.setup.counts draws → IsRunJournal (with_tapes script draws others) journal
+    → IsInDrawnOrder (with_tapes script draws others).setup journal
 unfolding position_of
 drawn-order script others draws journal rule tame list run =
     let on : Script = with_tapes script draws others in
@@ -66,17 +68,18 @@ drawn-order script others draws journal rule tame list run =
     let ends = ends-unforced on journal is.rule is.tame is.selected is.other is.all is.never run in
     ends-in-order on.setup (position_of on journal) is.rule is.selected is.other (tame.counted ∙ sym (length-words on journal)) run.going ends.1 ends.0
 
-order-is : (script : Script) (others draws : List ℕ) (journal : List Entry) → script.setup.rule ≡ Surw → IsTame script → IsDrawList script.setup.counts draws
-    → IsRunJournal (with_tapes script draws others) journal → selected_order script.setup.selection journal ≡ named_order script.setup.counts draws
+order-is : (script : Script) (others draws : List ℕ) (journal : List Entry) → script.setup.rule ≡ Surw → IsTame script
+    → IsDrawList script.setup.counts draws → IsRunJournal (with_tapes script draws others) journal
+    → selected_order script.setup.selection journal ≡ named_order script.setup.counts draws
 order-is script others draws journal rule tame list run =
     let drawn = drawn-order script others draws journal rule tame list run in
     let same : Ok drawn.draws ≡ Ok draws = sym drawn.answered ∙ list-drawn script.setup.counts draws list in
     let one : drawn.draws ≡ draws = cc in
     drawn.gives.order_named ∙ ap (named_order script.setup.counts) one
 
-pub every-order : (script : Script) → EveryOrderOf script
-every-order script rule tame others draws list =
-    let run = surw-run (with_tapes script draws others) (drawable script others draws rule tame list) in
+pub every-order : (script : Script) → ((draws others : List ℕ) → IsValid (with_tapes script draws others).setup) → EveryOrderOf script
+every-order script valid rule tame others draws list =
+    let run = run-exists (with_tapes script draws others) (valid draws others) (strict-source draws) (loose-source others) in
     ((run.journal, run.is), λ journal is. order-is script others draws journal rule tame list is)
 
 -- tests that agree on each item count the same
@@ -90,7 +93,8 @@ count-same p q (x ∷ xs) same =
 pub orders-come-equally-often : (script : Script) → OrdersComeEquallyOftenOf script
 orders-come-equally-often script rule tame others journal_of runs order fits =
     let counts : List ℕ = script.setup.counts in
-    count-same (λ draws. bytes_eq (selected_order script.setup.selection (journal_of draws)) order) (λ draws. bytes_eq (named_order counts draws) order) (all_draws counts)
+    let made : List ℕ → List ℕ = λ draws. selected_order script.setup.selection (journal_of draws) in
+    count-same (λ draws. bytes_eq (made draws) order) (λ draws. bytes_eq (named_order counts draws) order) (all_draws counts)
     (λ k d lt.
     let draws : List ℕ = get_or (all_draws counts) k d in
     let list : IsDrawList counts draws = no-other-listed counts k d lt in

@@ -1,29 +1,28 @@
 -- What holds of a journal so far, while no entry is forced: its selected events stand in the order that the draws name.
 use Rattle.std.proofs.Common.{◌≡◌, ℕ, suc, ◌+◌, ◌&&◌, ◌<◌, not, Bool, true, false, cond, List, [], ◌∷◌, ◌++◌, length, map, sum, take, get_or, None, Some, Ok, refl, ap, sym, subst, ◌∙◌, inl, inr, arith}
+use Rattle.std.proofs.Math.Seq.{take-length}
 use Rattle.std.proofs.lemmas.Bool.{cases_Bool}
 use Rattle.std.proofs.lemmas.List.{append_assoc, append-nil, ext_get_or, length-map, map-append, take_more, length_push, get_or_push}
-use Rattle.std.proofs.Math.Seq.{take-length}
 use Rattle.std.proofs.lemmas.List.Elements.{filter-append}
 use Rattle.std.specs.List.{filter}
-use Rattle.event_class.specs.declared.pickable.Pickable.{Pickable}
-use Rattle.event_class.specs.Selection.{has}
 use Rattle.draw_split.specs.Bag.{pick, less_one}
 use Rattle.draw_split.specs.Named.{named_order}
 use Rattle.draw_split.proofs.Bag.{placed, sum-less_one}
 use Rattle.draw_split.proofs.Named.{AreGood, good-cons, named_order-cons}
-use Rattle.seed_draws.specs.Answers.{Source}
+use Rattle.seed_draws.specs.Answers.{Source, IsSource}
+use Rattle.seed_draws.specs.Falling.{falling}
+use Rattle.event_class.specs.declared.pickable.Pickable.{Pickable}
+use Rattle.event_class.specs.Selection.{has}
 use Rattle.walk_rules.specs.declared.picked.Picked.TheVariants.{Grant}
 use Rattle.run_rules.specs.declared.entry.Entry.{Entry}
+use Rattle.run_rules.specs.Intention.{ends_intention, ending_fronts, intention_lefts, intended_by, intended_after}
 use Rattle.run_rules.specs.Made.{events_made, numbers_left, selected_order}
 use Rattle.run_rules.specs.Position.{Position}
 use Rattle.run_rules.specs.Setup.{Setup}
-use Rattle.run_rules.proofs.Numbers.{left-more, left-kept, left-any, length-left}
-use Rattle.run_rules.specs.Intention.{ends_intention, ending_fronts, intention_lefts, intended_by, intended_after}
 use Rattle.run_rules.specs.SurwChoice.{surw_choice}
-use Rattle.seed_draws.specs.Answers.{IsSource}
-use Rattle.seed_draws.specs.Falling.{falling}
-use Rattle.selected_order.proofs.Grants.{surw-intended}
 use Rattle.run_rules.proofs.Intentions.{lefts-kept, lefts-more, IsIntendedBy, intended-draw}
+use Rattle.run_rules.proofs.Numbers.{left-more, left-kept, left-any, length-left}
+use Rattle.selected_order.proofs.UnforcedGrants.{surw-intended}
 
 -- the numbers left after a journal
 abbrev pub left_of : Setup → List Entry → List ℕ
@@ -43,7 +42,7 @@ pub record IsInOrder (setup : Setup) (journal : List Entry) : Type 0 where
 
 -- ---- at the start
 
-left-none : (selection : List Pickable) (counts : List ℕ) → numbers_left selection counts [] ≡ counts
+pub left-none : (selection : List Pickable) (counts : List ℕ) → numbers_left selection counts [] ≡ counts
 unfolding events_made
 left-none selection counts =
     ext_get_or 0 (numbers_left selection counts []) counts (length-left selection counts [])
@@ -117,41 +116,37 @@ record IsOneMore (draws all : List ℕ) : Type 0 where
 
 one-more : (source : Source) (bounds draws all : List ℕ) (bound : ℕ) → IsSource source.answers → source.answers bounds ≡ Ok draws
     → source.answers (bounds ++ bound ∷ []) ≡ Ok all → IsOneMore draws all
-one-more source bounds draws all bound sequential before after =
-    let front : Ok (take (length bounds) all) ≡ Ok draws = sym (sequential.first bounds (bound ∷ []) all after) ∙ before in
+one-more source bounds draws all bound is_source before after =
+    let front : Ok (take (length bounds) all) ≡ Ok draws = sym (is_source.first bounds (bound ∷ []) all after) ∙ before in
     let same : take (length bounds) all ≡ draws = cc in
-    let short : length draws ≡ length bounds = sequential.each bounds draws before in
-    let long : length all ≡ length bounds + 1 = sequential.each (bounds ++ bound ∷ []) all after ∙ length_push bounds bound in
+    let short : length draws ≡ length bounds = is_source.each bounds draws before in
+    let long : length all ≡ length bounds + 1 = is_source.each (bounds ++ bound ∷ []) all after ∙ length_push bounds bound in
     record {
       draw = get_or all (length bounds) 0;
       at = ap (λ n. get_or all n 0) short;
-      is = sym (take-length all) ∙ ap (λ n. take n all) long ∙ take_more all (length bounds) 0 (omega (arith, long)) ∙ ap (λ front. front ++ get_or all (length bounds) 0 ∷ []) same;
+      is = sym (take-length all) ∙ ap (λ n. take n all) long ∙ take_more all (length bounds) 0 (omega (arith, long))
+          ∙ ap (λ front. front ++ get_or all (length bounds) 0 ∷ []) same;
     }
 
-in-order-take : (setup : Setup) (journal : List Entry) (entry : Entry) → IsSource setup.selected.answers → IsInOrder setup journal → has setup.selection entry.event ≡ true
-    → entry.forced ≡ false → intended_after setup journal ≡ Ok (Some entry.thread) → IsInOrder setup (journal ++ entry ∷ [])
+in-order-take : (setup : Setup) (journal : List Entry) (entry : Entry) → IsSource setup.selected.answers → IsInOrder setup journal
+    → has setup.selection entry.event ≡ true → entry.forced ≡ false → intended_after setup journal ≡ Ok (Some entry.thread)
+    → IsInOrder setup (journal ++ entry ∷ [])
 unfolding intended_after
-in-order-take setup journal entry sequential is selected unforced intended =
+in-order-take setup journal entry is_source is selected unforced intended =
     let longer : List Entry = journal ++ entry ∷ [] in
     let left : List ℕ = left_of setup journal in
     let answers = setup.selected.answers in
     let by : IsIntendedBy answers is.before left entry.thread =
     intended-draw answers is.before left entry.thread (ap (intended_by answers) (sym is.asked) ∙ intended) in
-    let more : IsOneMore is.draws by.draws = one-more setup.selected (map sum is.before) is.draws by.draws (sum left) sequential is.answered by.answered in
-    let many : length is.draws ≡ length is.before = sequential.each (map sum is.before) is.draws is.answered ∙ length-map is.before sum in
+    let more : IsOneMore is.draws by.draws = one-more setup.selected (map sum is.before) is.draws by.draws (sum left) is_source is.answered by.answered in
+    let many : length is.draws ≡ length is.before = is_source.each (map sum is.before) is.draws is.answered ∙ length-map is.before sum in
     let drawn : pick left more.draw ≡ entry.thread = ap (pick left) (sym more.at ∙ ap (λ n. get_or by.draws n 0) many) ∙ by.picked in
     let bounds : List ℕ = map sum is.before ++ sum left ∷ [] in
     let last : get_or bounds (length is.before) 0 ≡ sum left =
     get_or_push (map sum is.before) (sum left) 0 (length is.before) (length-map is.before sum) in
-    let below : more.draw < sum left =
-    omega (
-      arith,
-      last,
-      many,
-      more.at,
-      ap (λ n. get_or by.draws n 0) many,
-      sequential.below bounds by.draws by.answered (length is.before) (omega (arith, length_push (map sum is.before) (sum left), length-map is.before sum)) (omega (arith, last, by.some)),
-    ) in
+    let inside : length is.before < length bounds = omega (arith, length_push (map sum is.before) (sum left), length-map is.before sum) in
+    let under = is_source.below bounds by.draws by.answered (length is.before) inside (omega (arith, last, by.some)) in
+    let below : more.draw < sum left = omega (arith, last, many, more.at, ap (λ n. get_or by.draws n 0) many, under) in
     let place = placed left more.draw below in
     let some : 0 < get_or left entry.thread 0 = omega (arith, place.within, ap (λ t. get_or left t 0) drawn) in
     let less : left_of setup longer ≡ less_one left entry.thread = left-more setup.selection setup.counts journal entry selected in
@@ -163,7 +158,8 @@ in-order-take setup journal entry sequential is selected unforced intended =
       before = is.before ++ left ∷ [];
       draws = by.draws;
       asked = lefts-more setup.selection setup.counts journal entry end ∙ ap (λ lefts. lefts ++ left_of setup longer ∷ []) is.asked;
-      falls = ap (λ s. s ++ falling (sum (left_of setup longer))) sums ∙ sym (falling-more (map sum is.before) (sum left) (sum (left_of setup longer)) fewer) ∙ is.falls;
+      falls = ap (λ s. s ++ falling (sum (left_of setup longer))) sums
+          ∙ sym (falling-more (map sum is.before) (sum left) (sum (left_of setup longer)) fewer) ∙ is.falls;
       answered = ap answers sums ∙ by.answered;
       named = λ rest.
           ap (λ ds. named_order setup.counts (ds ++ rest)) more.is

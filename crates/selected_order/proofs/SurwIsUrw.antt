@@ -2,37 +2,38 @@
 use Rattle.std.proofs.Common.{◌≡◌, ℕ, zero, suc, ◌+◌, ◌<◌, ◌≤◌, Bool, false, List, [], ◌∷◌, length, take, get_or, Option, None, Some, IsSome, Result, Ok, Err, refl, ap, sym, subst, ◌∙◌, arith}
 use Rattle.std.proofs.Math.Seq.{take-length}
 use Rattle.std.proofs.lemmas.Option.{slice_get_within}
+use Rattle.std.specs.Option.{option_map}
 use Rattle.seed_draws.specs.declared.draw_fault.DrawFault.{DrawFault}
+use Rattle.seed_draws.specs.Answers.{IsSource, NeverRefuses}
 use Rattle.walk_rules.specs.declared.picked.Picked.TheVariants.{Grant}
 use Rattle.walk_rules.specs.declared.rule.Rule.{Rule}
 use Rattle.walk_rules.specs.declared.rule.Rule.TheVariants.{Surw, Urw}
 use Rattle.walk_rules.specs.Granted.{granted_at}
+use Rattle.walk_rules.specs.Strategies.{counts_down}
+use Rattle.walk_rules.specs.Urw.{urw_thread}
 use Rattle.run_rules.specs.declared.entry.Entry.{Entry}
 use Rattle.run_rules.specs.declared.verdict.Verdict.{Verdict}
-use Rattle.run_rules.specs.declared.verdict.Verdict.TheVariants.{WrongCount}
-use Rattle.run_rules.specs.Legal.{IsLegal}
-use Rattle.run_rules.specs.Made.{events_made}
-use Rattle.run_rules.specs.Position.{Position, position_of, seen_at}
-use Rattle.run_rules.specs.Setup.{Setup, Script}
 use Rattle.run_rules.specs.Asked.{answers_at}
 use Rattle.run_rules.specs.Left.{left_at}
+use Rattle.run_rules.specs.Legal.{IsLegal}
+use Rattle.run_rules.specs.Position.{Position, position_of, seen_at}
+use Rattle.run_rules.specs.Setup.{Setup, Script}
+use Rattle.run_rules.specs.SurwChoice.{surw_choice}
 use Rattle.run_rules.specs.UrwChoice.{urw_bounds_at, urw_choice}
-use Rattle.walk_rules.specs.Urw.{urw_thread}
-use Rattle.std.specs.Option.{option_map}
 use Rattle.run_rules.specs.Verdict.{first_miscounted, wrong_count, ended, step_limit, deadlock, refused, first_of, verdict_at}
-use Rattle.run_rules.proofs.Choices.{none-mapped}
+use Rattle.run_rules.proofs.Counts.{none-miscounted}
 use Rattle.run_rules.proofs.Fronts.{AtEach, IsNext, next-at, each-front}
 use Rattle.run_rules.proofs.Goings.{GoesOnAfter, fronts-going, going-fronts}
 use Rattle.run_rules.proofs.Scripts.{legal-front}
 use Rattle.run_rules.proofs.Verdicts.{grant-parts, verdict-none}
-use Rattle.run_rules.specs.SurwChoice.{surw_choice}
 use Rattle.selected_order.specs.SurwIsUrw.{SurwIsUrw, setup_under, under}
-use Rattle.seed_draws.specs.Answers.{IsSource, NeverRefuses}
-use Rattle.selected_order.proofs.Ends.{wrong-is}
 use Rattle.selected_order.proofs.EndsInOrder.{choice-is}
-use Rattle.selected_order.proofs.Goes.{no-deadlock}
-use Rattle.selected_order.proofs.SameChoice.{IsEvery, IsStepwise, stepwise-none, stepwise-more, choice-same}
-use Rattle.selected_order.proofs.Unforced.{other-answers}
+use Rattle.selected_order.proofs.FreeChoice.{other-answers}
+use Rattle.selected_order.proofs.NoDeadlock.{no-deadlock}
+use Rattle.selected_order.proofs.NoneLeft.{wrong_of, wrong-is}
+use Rattle.selected_order.proofs.SameBounds.{IsStepwise, stepwise-none, stepwise-more}
+use Rattle.selected_order.proofs.SameChoice.{choice-same}
+use Rattle.selected_order.proofs.SameLeft.{IsEvery}
 
 -- what is asked of a script and its sources
 record IsSame (script : Script) : Type 0 where
@@ -43,7 +44,8 @@ record IsSame (script : Script) : Type 0 where
   never : NeverRefuses script.setup.other.answers
 
 -- a grant of URW isn't forced
-granted-free : (thread_of : ℕ → ℕ) (answer : Result (List ℕ) DrawFault) (thread : ℕ) (forced : Bool) → granted_at thread_of answer ≡ Grant thread forced → forced ≡ false
+granted-free : (thread_of : ℕ → ℕ) (answer : Result (List ℕ) DrawFault) (thread : ℕ) (forced : Bool)
+    → granted_at thread_of answer ≡ Grant thread forced → forced ≡ false
 granted-free thread_of (Ok draws) thread forced granted = sym (grant-parts (thread_of (get_or draws 0 0)) thread false forced granted).1
 granted-free thread_of (Err fault) thread forced granted = absurd cc
 
@@ -63,9 +65,7 @@ last-same None None None (Some v) e f same = refl
 last-same None None None None e f same = ap (λ v. first_of (v ∷ [])) (same refl refl refl refl)
 
 none-counted : (setup : Setup) (x : Position) → setup.rule ≡ Surw → wrong_count setup x ≡ None → first_miscounted setup x ≡ None
-none-counted setup x rule none =
-    none-mapped (λ thread. WrongCount (length x.journal) thread (get_or setup.counts thread 0) (events_made setup.selection x.journal thread))
-    (first_miscounted setup x) (sym (wrong-is setup x rule) ∙ none)
+none-counted setup x rule none = none-miscounted setup x (ap counts_down rule) none
 
 -- URW's choice doesn't look at the rule
 urw-under : (setup : Setup) (x : Position) → urw_choice (setup_under Urw setup) x ≡ urw_choice setup x
@@ -73,12 +73,12 @@ unfolding urw_choice seen_at
 urw-under setup x = refl
 
 verdict-same : (setup : Setup) (x : Position) → setup.rule ≡ Surw
-    → (first_miscounted setup x ≡ None → deadlock setup x ≡ None → surw_choice setup x ≡ urw_choice setup x) → verdict_at setup x ≡ verdict_at (setup_under Urw setup) x
+    → (first_miscounted setup x ≡ None → deadlock setup x ≡ None → surw_choice setup x ≡ urw_choice setup x)
+    → verdict_at setup x ≡ verdict_at (setup_under Urw setup) x
 unfolding verdict_at seen_at urw_choice
 verdict-same setup x rule same =
     let n : ℕ = length x.journal in
-    let wrong : Option Verdict =
-    option_map (λ thread. WrongCount n thread (get_or setup.counts thread 0) (events_made setup.selection x.journal thread)) (first_miscounted setup x) in
+    let wrong : Option Verdict = option_map (wrong_of setup x) (first_miscounted setup x) in
     (λ i. first_of (wrong-is setup x rule i ∷ ended x ∷ step_limit setup x ∷ deadlock setup x ∷ refused n (choice-is setup x rule i) ∷ []))
     ∙ last-same wrong (ended x) (step_limit setup x) (deadlock setup x) (refused n (surw_choice setup x)) (refused n (urw_choice setup x))
     (λ counted more short able. ap (refused n) (same (none-counted setup x rule (wrong-is setup x rule ∙ counted)) able))
@@ -158,7 +158,8 @@ surw-is-urw plain counted selected other never journal every free run =
     } in
     let legal : IsLegal script journal = run.legal in
     let fronts : AtEach (GoesOnAfter script) journal = going-fronts script journal legal run.going in
-    let step : IsStepwise script journal = subst (IsStepwise script) (take-length journal) (step-at script journal (length journal) is legal fronts (omega arith)) in
+    let step : IsStepwise script journal =
+    subst (IsStepwise script) (take-length journal) (step-at script journal (length journal) is legal fronts (omega arith)) in
     let same = verdict-same script.setup (position_of script journal) refl (same-at script journal is legal fronts step) in
     let again : IsLegal (under Urw plain) journal = legal-under plain Surw Urw journal legal in (
       record {

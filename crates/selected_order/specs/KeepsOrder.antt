@@ -1,11 +1,11 @@
 -- What the selected order theorem says of a run as it is told.
 use Rattle.std.specs.Prelude.{◌≡◌, IsOk, sum}
+use Rattle.seed_draws.specs.Answers.{NeverRefuses}
+use Rattle.seed_draws.specs.Falling.{falling}
 use Rattle.walk_rules.specs.declared.rule.Rule.TheVariants.{Surw}
 use Rattle.run_rules.specs.declared.verdict.Verdict.TheVariants.{Ended}
 use Rattle.run_rules.specs.Run.{Ran}
 use Rattle.run_rules.specs.Setup.{Script}
-use Rattle.seed_draws.specs.Answers.{NeverRefuses}
-use Rattle.seed_draws.specs.Falling.{falling}
 use Rattle.selected_order.specs.SelectedOrder.{IsInDrawnOrder, IsUnforced}
 use Rattle.selected_order.specs.SurwScript.{IsTame}
 
@@ -14,5 +14,5 @@ use Rattle.selected_order.specs.SurwScript.{IsTame}
 -- no entry is forced
 pub record KeepsOrder (script : Script) (ran : Ran) : Type 0 where
   pub drawn : script.setup.rule ≡ Surw → ran.verdict ≡ Ended → IsUnforced ran.journal → IsInDrawnOrder script.setup ran.journal
-  pub ends : script.setup.rule ≡ Surw → IsTame script → IsOk (script.setup.selected.answers (falling (sum script.setup.counts))) → NeverRefuses script.setup.other.answers
-      → (ran.verdict ≡ Ended) × IsUnforced ran.journal
+  pub ends : script.setup.rule ≡ Surw → IsTame script → IsOk (script.setup.selected.answers (falling (sum script.setup.counts)))
+      → NeverRefuses script.setup.other.answers → (ran.verdict ≡ Ended) × IsUnforced ran.journal

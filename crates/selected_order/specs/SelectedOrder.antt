@@ -2,6 +2,7 @@
 use Rattle.std.specs.Prelude.{◌≡◌, ℕ, false, List, length, sum, Some, slice_get, Ok}
 use Rattle.draw_split.specs.Laws.{Gives}
 use Rattle.seed_draws.specs.Answers.{IsSource}
+use Rattle.seed_draws.specs.Falling.{falling}
 use Rattle.walk_rules.specs.declared.rule.Rule.TheVariants.{Surw}
 use Rattle.run_rules.specs.declared.entry.Entry.{Entry}
 use Rattle.run_rules.specs.declared.verdict.Verdict.TheVariants.{Ended}
@@ -10,7 +11,6 @@ use Rattle.run_rules.specs.Position.{Position}
 use Rattle.run_rules.specs.Run.{GoesOn}
 use Rattle.run_rules.specs.Setup.{Setup}
 use Rattle.run_rules.specs.Verdict.{verdict_at}
-use Rattle.seed_draws.specs.Falling.{falling}
 
 -- no entry is forced
 abbrev pub IsUnforced : List Entry → Type 0

@@ -1,7 +1,7 @@
 -- Where every event is selected and nothing blocks, the run under SURW is the run under URW with the same selected draws.
 use Rattle.std.specs.Prelude.{◌≡◌, List, [], ◌∷◌, length}
-use Rattle.event_class.specs.declared.pickable.Pickable.TheVariants.{Every}
 use Rattle.seed_draws.specs.Answers.{IsSource, NeverRefuses}
+use Rattle.event_class.specs.declared.pickable.Pickable.TheVariants.{Every}
 use Rattle.walk_rules.specs.declared.rule.Rule.{Rule}
 use Rattle.walk_rules.specs.declared.rule.Rule.TheVariants.{Surw, Urw}
 use Rattle.run_rules.specs.declared.entry.Entry.{Entry}

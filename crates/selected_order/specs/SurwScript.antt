@@ -1,7 +1,8 @@
 -- What a script has to be so that SURW ends without a forced step: each speaks of all its legal journals, not of one run.
 use Rattle.std.specs.Prelude.{◌≡◌, ℕ, ◌≤◌, ◌<◌, List, length, sum, slice_index, None, Some, IsOk, IsTrue}
-use Rattle.event_class.specs.declared.event.Event.{Event}
 use Rattle.seed_draws.specs.Answers.{IsSource, NeverRefuses}
+use Rattle.seed_draws.specs.Falling.{falling}
+use Rattle.event_class.specs.declared.event.Event.{Event}
 use Rattle.test_world.specs.World.{new_world, is_enabled}
 use Rattle.walk_rules.specs.declared.rule.Rule.TheVariants.{Surw}
 use Rattle.run_rules.specs.declared.entry.Entry.{Entry}
@@ -10,12 +11,11 @@ use Rattle.run_rules.specs.Journal.{world_after}
 use Rattle.run_rules.specs.Legal.{IsLegal}
 use Rattle.run_rules.specs.Made.{events_made}
 use Rattle.run_rules.specs.Position.{position_of}
+use Rattle.run_rules.specs.Run.{IsRunJournal}
 use Rattle.run_rules.specs.Setup.{Script}
 use Rattle.run_rules.specs.Told.{said}
-use Rattle.selected_order.specs.SelectedOrder.{IsUnforced}
-use Rattle.run_rules.specs.Run.{IsRunJournal}
 use Rattle.run_rules.specs.Verdict.{verdict_at}
-use Rattle.seed_draws.specs.Falling.{falling}
+use Rattle.selected_order.specs.SelectedOrder.{IsUnforced}
 
 -- no thread announces an event
 abbrev pub HasEnded : Script → List Entry → Type 0

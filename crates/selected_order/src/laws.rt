@@ -1,8 +1,8 @@
 //! What holds of SURW. A law does nothing when it is called: its contract is the law.
 
 ghost use Rattle.seed_draws.specs.Answers.{source_of};
-ghost use Rattle.run_rules.specs.Plan.{script_of, IsValidPlan};
 ghost use Rattle.seed_draws.specs.TapeSource.{loose_draws, strict_draws};
+ghost use Rattle.run_rules.specs.Plan.{script_of, IsValidPlan};
 ghost use Rattle.selected_order.specs.EveryOrder.{EveryOrderOf, OrdersComeEquallyOftenOf};
 ghost use Rattle.selected_order.specs.SelectedOrder.{EndsInOrder};
 ghost use Rattle.selected_order.specs.SurwIsUrw.{SurwIsUrwOf};

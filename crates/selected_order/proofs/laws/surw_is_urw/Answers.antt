@@ -1,10 +1,10 @@
 use Rattle.seed_draws.specs.Answers.{source_of}
 use Rattle.seed_draws.specs.TapeLaws.{loose_below, strict_below}
-use Rattle.seed_draws.proofs.Asked.{is-source}
-use Rattle.run_rules.specs.Plan.{script_of}
 use Rattle.seed_draws.specs.TapeSource.{loose_draws, strict_draws}
-use Rattle.selected_order.proofs.SurwIsUrw.{surw-is-urw}
+use Rattle.seed_draws.proofs.Asked.{is-source}
 use Rattle.seed_draws.proofs.Tapes.{loose-never}
+use Rattle.run_rules.specs.Plan.{script_of}
+use Rattle.selected_order.proofs.SurwIsUrw.{surw-is-urw}
 use Rattle.selected_order.proofs.laws.surw_is_urw.Goals as goal
 
 pub returns : goal.returns

@@ -2,29 +2,29 @@
 use Rattle.std.proofs.Common.{◌≡◌, ℕ, List, [], ◌∷◌, true, false, map, None, Some, refl}
 use Rattle.std.specs.List.{range_with_len}
 use Rattle.draw_split.specs.Bag.{bag, pick}
+use Rattle.seed_draws.specs.declared.draw_fault.DrawFault.TheVariants.{Short}
+use Rattle.seed_draws.specs.Answers.{answers}
+use Rattle.seed_draws.specs.TapeSource.{loose_tape, strict_tape}
 use Rattle.event_class.specs.declared.event.Class.TheVariants.{Cell}
 use Rattle.event_class.specs.declared.event.Event.{Event}
 use Rattle.event_class.specs.declared.event.Event.TheVariants.{Acquire, Release, Load, Store, Add}
 use Rattle.event_class.specs.declared.pickable.Pickable.{Pickable}
 use Rattle.event_class.specs.declared.pickable.Pickable.TheVariants.{Of, CellNo}
-use Rattle.seed_draws.specs.Answers.{answers}
-use Rattle.seed_draws.specs.declared.draw_fault.DrawFault.TheVariants.{Short}
 use Rattle.walk_rules.specs.declared.picked.Picked.{Picked}
 use Rattle.walk_rules.specs.declared.picked.Picked.TheVariants.{Grant, Stop}
 use Rattle.walk_rules.specs.declared.rule.Rule.TheVariants.{Surw}
 use Rattle.walk_rules.specs.Seen.{able_threads}
+use Rattle.walk_rules.specs.Surw.{narrow}
 use Rattle.run_rules.specs.declared.entry.Entry.{Entry}
 use Rattle.run_rules.specs.declared.verdict.Verdict.TheVariants.{Ended}
+use Rattle.run_rules.specs.Choice.{choice}
+use Rattle.run_rules.specs.Intention.{ending_fronts, intention_lefts, intended_after}
 use Rattle.run_rules.specs.Journal.{world_after}
 use Rattle.run_rules.specs.Made.{events_made, numbers_left}
 use Rattle.run_rules.specs.Position.{Position, words_before, position_at, earlier, seen_at}
 use Rattle.run_rules.specs.Setup.{Setup}
-use Rattle.walk_rules.specs.Surw.{narrow}
-use Rattle.run_rules.specs.Intention.{ending_fronts, intention_lefts, intended_after}
-use Rattle.run_rules.specs.Choice.{choice}
-use Rattle.run_rules.specs.Verdict.{verdict_at}
-use Rattle.seed_draws.specs.TapeSource.{loose_tape, strict_tape}
 use Rattle.run_rules.specs.SurwChoice.{surw_choice, is_due_after}
+use Rattle.run_rules.specs.Verdict.{verdict_at}
 
 setup_with : ℕ → ℕ → List Pickable → List ℕ → List ℕ → List ℕ → Setup
 setup_with cells locks selection counts selected other = record {
@@ -55,7 +55,8 @@ lost_update = ended_with (free 0 (Load 0) 0 ∷ free 1 (Load 0) 0 ∷ free 0 (St
 
 lost_update-choices : choices (setup_with 1 0 (Of Cell ∷ []) (2 ∷ 2 ∷ []) (0 ∷ 1 ∷ 0 ∷ 0 ∷ []) []) lost_update 4
     ≡ Grant 0 false ∷ Grant 1 false ∷ Grant 0 false ∷ Grant 1 false ∷ []
-unfolding choices lost_update ended_with free setup_with surw_choice is_due_after intended_after intention_lefts ending_fronts narrow answers able_threads bag pick numbers_left events_made earlier position_at words_before seen_at world_after
+unfolding choices lost_update ended_with free setup_with surw_choice is_due_after intended_after intention_lefts ending_fronts
+    narrow answers able_threads bag pick numbers_left events_made earlier position_at words_before seen_at world_after
 lost_update-choices = refl
 
 lost_update-ended : verdict_at (setup_with 1 0 (Of Cell ∷ []) (2 ∷ 2 ∷ []) (0 ∷ 1 ∷ 0 ∷ 0 ∷ []) []) lost_update ≡ Some Ended
@@ -72,7 +73,8 @@ longer = ended_with
 longer-choices : choices (setup_with 2 0 (CellNo 0 ∷ []) (2 ∷ 2 ∷ []) (0 ∷ 1 ∷ 0 ∷ 0 ∷ []) (1 ∷ 1 ∷ 1 ∷ [])) longer 10
     ≡ Grant 1 false ∷ Grant 1 false ∷ Grant 1 false ∷ Grant 0 false ∷ Grant 0 false ∷ Grant 0 false ∷ Grant 0 false
     ∷ Grant 1 false ∷ Grant 0 false ∷ Grant 1 false ∷ []
-unfolding choices longer ended_with free setup_with surw_choice is_due_after intended_after intention_lefts ending_fronts narrow answers able_threads bag pick numbers_left events_made earlier position_at words_before seen_at world_after
+unfolding choices longer ended_with free setup_with surw_choice is_due_after intended_after intention_lefts ending_fronts
+    narrow answers able_threads bag pick numbers_left events_made earlier position_at words_before seen_at world_after
 longer-choices = refl
 
 -- the lock is held over the selected store, so it is forced, and thread 1 stays intended
@@ -83,7 +85,8 @@ held_lock = ended_with
 
 held_lock-choices : choices (setup_with 1 1 (CellNo 0 ∷ []) (1 ∷ 1 ∷ []) (1 ∷ 0 ∷ []) (0 ∷ [])) held_lock 6
     ≡ Grant 0 false ∷ Grant 0 true ∷ Grant 0 false ∷ Grant 1 false ∷ Grant 1 false ∷ Grant 1 false ∷ []
-unfolding choices held_lock ended_with free setup_with surw_choice is_due_after intended_after intention_lefts ending_fronts narrow answers able_threads bag pick numbers_left events_made earlier position_at words_before seen_at world_after
+unfolding choices held_lock ended_with free setup_with surw_choice is_due_after intended_after intention_lefts ending_fronts
+    narrow answers able_threads bag pick numbers_left events_made earlier position_at words_before seen_at world_after
 held_lock-choices = refl
 
 -- thread 1 is intended while thread 0 is forced, and stays so: its store is the next selected event, though the next draw would
@@ -95,11 +98,13 @@ kept_intention = ended_with
 
 kept_intention-choices : choices (setup_with 1 1 (CellNo 0 ∷ []) (2 ∷ 1 ∷ []) (2 ∷ 0 ∷ 0 ∷ []) (0 ∷ [])) kept_intention 7
     ≡ Grant 0 false ∷ Grant 0 true ∷ Grant 0 false ∷ Grant 1 false ∷ Grant 1 false ∷ Grant 0 false ∷ Grant 1 false ∷ []
-unfolding choices kept_intention ended_with free setup_with surw_choice is_due_after intended_after intention_lefts ending_fronts narrow answers able_threads bag pick numbers_left events_made earlier position_at words_before seen_at world_after
+unfolding choices kept_intention ended_with free setup_with surw_choice is_due_after intended_after intention_lefts ending_fronts
+    narrow answers able_threads bag pick numbers_left events_made earlier position_at words_before seen_at world_after
 kept_intention-choices = refl
 
 -- a short selected tape stops where an intention is drawn, not before
 short_tape-choices : choices (setup_with 1 0 (Of Cell ∷ []) (2 ∷ 2 ∷ []) (0 ∷ 1 ∷ 0 ∷ []) []) lost_update 4
     ≡ Grant 0 false ∷ Grant 1 false ∷ Grant 0 false ∷ Stop (Short 3) ∷ []
-unfolding choices lost_update ended_with free setup_with surw_choice is_due_after intended_after intention_lefts ending_fronts narrow answers able_threads bag pick numbers_left events_made earlier position_at words_before seen_at world_after
+unfolding choices lost_update ended_with free setup_with surw_choice is_due_after intended_after intention_lefts ending_fronts
+    narrow answers able_threads bag pick numbers_left events_made earlier position_at words_before seen_at world_after
 short_tape-choices = refl

@@ -15,13 +15,13 @@ use Rattle.walk_rules.specs.Seen.{is_able}
 use Rattle.walk_rules.specs.Strategies.{counts_down}
 use Rattle.run_rules.specs.declared.verdict.Verdict.{Verdict}
 use Rattle.run_rules.specs.declared.verdict.Verdict.TheVariants.{Ended, Deadlock, WrongCount, StepLimit}
+use Rattle.run_rules.specs.Choice.{choice}
 use Rattle.run_rules.specs.Made.{events_made, numbers_left}
 use Rattle.run_rules.specs.Position.{Position, seen_at}
 use Rattle.run_rules.specs.Setup.{Setup}
 use Rattle.run_rules.specs.Verdict.{verdict_at, wrong_count, is_miscounted, first_miscounted, ended, step_limit, deadlock, refused, first_of}
 use Rattle.run_rules.proofs.Choices.{is-counted}
 use Rattle.run_rules.proofs.Numbers.{left-any}
-use Rattle.run_rules.specs.Choice.{choice}
 
 -- ---- the verdict
 
@@ -32,21 +32,25 @@ no-end false false n picked is = cc
 no-end false true n (Grant thread forced) is = cc
 no-end false true n (Stop fault) is = cc
 
-none-miscounted : (f : ℕ → ℕ) (g : ℕ → ℕ) (n : ℕ) (found : Option ℕ) (rest : List (Option Verdict))
-    → first_of (option_map (λ thread. WrongCount n thread (f thread) (g thread)) found ∷ rest) ≡ Some Ended → (found ≡ None) × (first_of rest ≡ Some Ended)
-none-miscounted f g n None rest is = (refl, is)
-none-miscounted f g n (Some thread) rest is = absurd cc
+none-wrong : (f : ℕ → ℕ) (g : ℕ → ℕ) (n : ℕ) (found : Option ℕ) (rest : List (Option Verdict))
+    → first_of (option_map (λ thread. WrongCount n thread (f thread) (g thread)) found ∷ rest) ≡ Some Ended
+    → (found ≡ None) × (first_of rest ≡ Some Ended)
+none-wrong f g n None rest is = (refl, is)
+none-wrong f g n (Some thread) rest is = absurd cc
 
-none-going : (some : Bool) (rest : List (Option Verdict)) → (first_of rest ≡ Some Ended → ⊥) → first_of (cond some None (Some Ended) ∷ rest) ≡ Some Ended → some ≡ false
+none-going : (some : Bool) (rest : List (Option Verdict)) → (first_of rest ≡ Some Ended → ⊥)
+    → first_of (cond some None (Some Ended) ∷ rest) ≡ Some Ended → some ≡ false
 none-going true rest never is = absurd (never is)
 none-going false rest never is = refl
 
+-- the wrong count of a thread
+abbrev pub wrong_of : Setup → Position → ℕ → Verdict
+wrong_of setup x thread = WrongCount (length x.journal) thread (get_or setup.counts thread 0) (events_made setup.selection x.journal thread)
+
 -- under SURW the wrong count is the least thread's
 pub wrong-is : (setup : Setup) (x : Position) → setup.rule ≡ Surw
-    → wrong_count setup x ≡ option_map (λ thread. WrongCount (length x.journal) thread (get_or setup.counts thread 0) (events_made setup.selection x.journal thread)) (first_miscounted setup x)
-wrong-is setup x rule =
-    ap (λ (r : Rule). cond (counts_down r)
-    (option_map (λ thread. WrongCount (length x.journal) thread (get_or setup.counts thread 0) (events_made setup.selection x.journal thread)) (first_miscounted setup x)) None) rule
+    → wrong_count setup x ≡ option_map (wrong_of setup x) (first_miscounted setup x)
+wrong-is setup x rule = ap (λ (r : Rule). cond (counts_down r) (option_map (wrong_of setup x) (first_miscounted setup x)) None) rule
 
 -- it has ended: no count is wrong, and no thread has a word
 pub ended-parts : (setup : Setup) (x : Position) → setup.rule ≡ Surw → verdict_at setup x ≡ Some Ended
@@ -56,7 +60,9 @@ ended-parts setup x rule is =
     let n : ℕ = length x.journal in
     let later : List (Option Verdict) = step_limit setup x ∷ deadlock setup x ∷ refused n (choice setup x) ∷ [] in
     let cut = sym (ap (λ wrong. first_of (wrong ∷ ended x ∷ later)) (wrong-is setup x rule)) ∙ is in
-    let counted = none-miscounted (λ thread. get_or setup.counts thread 0) (λ thread. events_made setup.selection x.journal thread) n (first_miscounted setup x) (ended x ∷ later) cut in
+    let counts = λ (thread : ℕ). get_or setup.counts thread 0 in
+    let made = λ (thread : ℕ). events_made setup.selection x.journal thread in
+    let counted = none-wrong counts made n (first_miscounted setup x) (ended x ∷ later) cut in
     (counted.0, none-going (list_any is_some x.words) later (no-end (n == setup.max_steps) (list_any is_able (seen_at setup x)) n (choice setup x)) counted.1)
 
 -- ---- nothing is left
@@ -65,7 +71,8 @@ pub sum-none : (xs : List ℕ) → ((k : ℕ) → get_or xs k 0 ≡ 0) → sum x
 sum-none [] each = refl
 sum-none (x ∷ xs) each = omega (arith, each 0, sum_by-cons (λ x. x) x xs, sum-none xs (λ k. each (suc k)))
 
-no-word : (words : List (Option Event)) (k : ℕ) (word : Option Event) → k < length words → list_any is_some words ≡ false → get_or words k None ≡ word → word ≡ None
+no-word : (words : List (Option Event)) (k : ℕ) (word : Option Event) → k < length words → list_any is_some words ≡ false
+    → get_or words k None ≡ word → word ≡ None
 no-word words k None lt none is = refl
 no-word words k (Some event) lt none is =
     absurd (false≢true (sym none ∙ list_any_at is_some words k None lt (ap is_some is)))

@@ -1,26 +1,26 @@
 -- What a grant under SURW tells, where the step isn't forced.
-use Rattle.std.proofs.Common.{◌≡◌, ℕ, ◌+◌, ◌&&◌, ◌||◌, ◌<◌, ◌≤◌, not, Bool, true, false, cond, List, [], ◌∷◌, ◌++◌, length, get_or, Option, None, Some, is_ok, IsOk, take, Result, Ok, Err, refl, ap, sym, ◌∙◌, arith}
+use Rattle.std.proofs.Common.{◌≡◌, ℕ, ◌&&◌, ◌||◌, ◌<◌, ◌≤◌, not, Bool, true, false, cond, List, [], ◌∷◌, ◌++◌, length, get_or, Option, None, Some, is_ok, IsOk, take, Result, Ok, Err, refl, ap, sym, ◌∙◌, arith}
 use Rattle.std.proofs.lemmas.Bool.{eqb-true, eqb-false, cond-false, and_parts, false≢true}
 use Rattle.std.proofs.lemmas.List.Elements.{filter_passes}
 use Rattle.std.specs.List.{range_with_len}
+use Rattle.seed_draws.specs.declared.draw_fault.DrawFault.{DrawFault}
+use Rattle.seed_draws.specs.Answers.{Answering, IsSource, answers_after}
+use Rattle.seed_draws.proofs.Asked.{after-ok, has-draws, source-after}
 use Rattle.event_class.specs.declared.event.Event.{Event}
 use Rattle.event_class.specs.Selection.{has}
-use Rattle.seed_draws.specs.declared.draw_fault.DrawFault.{DrawFault}
 use Rattle.test_world.specs.World.{is_enabled}
 use Rattle.walk_rules.specs.declared.picked.Picked.TheVariants.{Grant}
 use Rattle.walk_rules.specs.declared.seen.Seen.{Seen}
 use Rattle.walk_rules.specs.declared.seen.Seen.TheVariants.{Held, Able}
 use Rattle.walk_rules.specs.Seen.{is_able, is_chosen, seen_of, able_threads}
+use Rattle.walk_rules.specs.Surw.{candidate_at, candidate_bounds, candidates, is_forced, is_intended, is_narrow, narrow, surw_picked}
+use Rattle.run_rules.specs.Asked.{asked_over}
+use Rattle.run_rules.specs.Intention.{intended_after}
 use Rattle.run_rules.specs.Position.{Position, earlier, seen_at, seen_word, world_at}
 use Rattle.run_rules.specs.Setup.{Setup}
+use Rattle.run_rules.specs.SurwChoice.{surw_choice, surw_other_at}
 use Rattle.run_rules.proofs.Verdicts.{grant-parts}
 use Rattle.run_rules.proofs.Words.{seen-at}
-use Rattle.walk_rules.specs.Surw.{candidate_at, candidate_bounds, candidates, is_forced, is_intended, is_narrow, narrow, surw_picked}
-use Rattle.run_rules.specs.Intention.{intended_after}
-use Rattle.run_rules.specs.SurwChoice.{surw_choice, surw_other_at}
-use Rattle.seed_draws.specs.Answers.{Answering, IsSource, answers_after}
-use Rattle.seed_draws.proofs.Asked.{after-ok, has-draws, source-after}
-use Rattle.run_rules.specs.Asked.{asked_over}
 
 -- a thread is granted among the narrow candidates of an intention
 pub record IsNarrowGrant (intention : Result (Option ℕ) DrawFault) (view : List Seen) (thread : ℕ) : Type 0 where
