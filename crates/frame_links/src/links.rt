@@ -18,17 +18,17 @@ pub struct Links {
 
 impl Model for Links {
     ghost use Rattle.std.specs.Prelude.{ℕ, List};
-    ghost use Rattle.frame_links.specs.Linked.{linked_lists, AreLinked};
+    ghost use Rattle.frame_links.specs.Linked.{linked_lists, IsLinked};
 
     ghost Value = { List (List ℕ) };
 
     ghost view = { λ links. linked_lists links.ring.after.items links.owners.items };
 
-    ghost invariant = { λ links. AreLinked links.ring.after.items links.ring.before.items links.owners.items (linked_lists links.ring.after.items links.owners.items) };
+    ghost invariant = { λ links. IsLinked links.ring.after.items links.ring.before.items links.owners.items };
 }
 
 impl Links {
-    /// So many nodes, all in list 0 and rising, and so many lists. An error comes only where memory is refused.
+    /// So many nodes, all in list 0 and rising, and so many lists, at least one. An error comes only where memory is refused.
     pub fn new(alloc: Global, nodes: u16, lists: u8) -> Result<Links, OutOfMemory>
         requires { 1 ≤ lists }
         ensures lists { IfOk result (λ links. links ≡ first_lists nodes lists) }

@@ -1,6 +1,6 @@
-ghost use Rattle.std.specs.Prelude.{◌≡◌, ◌+◌, ◌^◌, ◌<◌, IfOk, slice_index, slice_set, length, map};
+ghost use Rattle.std.specs.Prelude.{◌≡◌, ◌+◌, ◌^◌, ◌<◌, IfOk, slice_index, length, map};
 ghost use Rattle.std.specs.List.{range_with_len};
-ghost use Rattle.frame_links.specs.Linked.{first_after, first_before};
+ghost use Rattle.frame_links.specs.Linked.{first_after, first_before, way_with, way_without};
 
 use std::alloc::Global;
 use surw_base::OutOfMemory;
@@ -54,8 +54,8 @@ impl Ring {
         requires before { point < length self.old.before.items }
         requires next { slice_index self.old.after.items point < length self.old.before.items }
         requires last { slice_index self.old.before.items point < length self.old.after.items }
-        ensures after { self.new.after.items ≡ slice_set self.old.after.items (slice_index self.old.before.items point) (slice_index self.old.after.items point) }
-        ensures before { self.new.before.items ≡ slice_set self.old.before.items (slice_index self.old.after.items point) (slice_index self.old.before.items point) }
+        ensures after { self.new.after.items ≡ way_without self.old.after.items self.old.before.items point }
+        ensures before { self.new.before.items ≡ way_without self.old.before.items self.old.after.items point }
     {
         let after = self.after[point];
         let before = self.before[point];
@@ -69,14 +69,14 @@ impl Ring {
         requires point_before { point < length self.old.before.items }
         requires after { after < length self.old.before.items }
         requires before { slice_index self.old.before.items after < length self.old.after.items }
-        ensures after { self.new.after.items ≡ slice_set (slice_set self.old.after.items (slice_index self.old.before.items after) point) point after }
-        ensures before { self.new.before.items ≡ slice_set (slice_set self.old.before.items point (slice_index self.old.before.items after)) after point }
+        ensures after { self.new.after.items ≡ way_with self.old.after.items (slice_index self.old.before.items after) point after }
+        ensures before { self.new.before.items ≡ way_with self.old.before.items after point (slice_index self.old.before.items after) }
     {
         let before = self.before[after];
         self.after[before] = point;
         self.after[point] = after;
-        self.before[point] = before;
         self.before[after] = point;
+        self.before[point] = before;
     }
 }
 
