@@ -1,5 +1,5 @@
 -- The plan of a scenario.
-use Rattle.std.specs.Prelude.{◌≡◌, ℕ, List, [], ◌∷◌, Option, None, Some}
+use Rattle.std.specs.Prelude.{◌≡◌, ℕ, ◌≤◌, List, [], ◌∷◌, Option, None, Some, IfSome}
 use Rattle.event_class.specs.declared.pickable.Pickable.{Pickable}
 use Rattle.event_class.specs.declared.pickable.Pickable.TheVariants.{Every}
 use Rattle.routine_kit.specs.declared.any_routine.AnyRoutine.{AnyRoutine}
@@ -12,7 +12,7 @@ use Rattle.walk_rules.specs.declared.rule.Rule.TheVariants as rule
 use Rattle.walk_rules.specs.State.{new_walk}
 use Rattle.scenario_toml.specs.declared.choice.Choice.{Choice}
 use Rattle.scenario_toml.specs.declared.strategy.Strategy.{Strategy}
-use Rattle.scenario_toml.specs.declared.strategy.Strategy.TheVariants.{Urw, Plain}
+use Rattle.scenario_toml.specs.declared.strategy.Strategy.TheVariants.{Urw, Surw, Pct, Plain}
 use Rattle.scenario_toml.specs.State.{ScenarioState}
 
 -- what is chosen, else what the file has
@@ -24,15 +24,25 @@ chosen_or kept (Some chosen) = chosen
 abbrev pub strategy_by : ScenarioState → Choice → Strategy
 strategy_by s choice = chosen_or s.strategy choice.strategy
 
--- the rule of a strategy
-abbrev pub rule_by : Strategy → Rule
-rule_by Urw = rule.Urw
-rule_by Plain = rule.Plain
+-- the depth that they give
+abbrev pub depth_by : ScenarioState → Choice → ℕ
+depth_by s choice = chosen_or s.depth choice.depth
 
--- under URW every event is selected
+-- the rule of a strategy, where a depth is given
+abbrev pub rule_by : Strategy → ℕ → Rule
+rule_by Urw depth = rule.Urw
+rule_by Surw depth = rule.Surw
+rule_by Pct depth = rule.Pct depth
+rule_by Plain depth = rule.Plain
+
+-- under URW every event is selected, under each other strategy those that the file says
 abbrev pub selection_by : Strategy → List Pickable → List Pickable
 selection_by Urw select = Every ∷ []
-selection_by Plain select = select
+selection_by _ select = select
+
+-- the depth of a choice, where it has one, is from 1 to 16
+abbrev pub HasDepth : Choice → Type 0
+HasDepth choice = IfSome choice.depth (λ depth. (1 ≤ depth) × (depth ≤ 16))
 
 -- a tape of which nothing is taken
 abbrev pub whole : List ℕ → Tape
@@ -43,7 +53,7 @@ pub record IsPlanOf (s : ScenarioState) (choice : Choice) (counts : List ℕ) (p
   pub world : plan.world ≡ s.size
   pub routines : plan.routines.items ≡ s.routines
   pub selection : plan.selection ≡ selection_by (strategy_by s choice) s.select
-  pub walk : plan.walk ≡ new_walk (rule_by (strategy_by s choice)) counts
+  pub walk : plan.walk ≡ new_walk (rule_by (strategy_by s choice) (depth_by s choice)) counts
   pub selected : plan.selected ≡ Strict (whole s.selected)
   pub other : plan.other ≡ Loose (whole s.other)
   pub max_steps : plan.max_steps ≡ s.max_steps

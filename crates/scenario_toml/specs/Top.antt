@@ -1,16 +1,17 @@
 -- The top table.
 use Rattle.std.specs.Prelude.{List, ℕ, [], ◌∷◌, Option, None, Some, Result, Ok, codes}
-use Rattle.toml.specs.Data.{Data, Items, Members, as_table, get_member}
+use Rattle.toml.specs.Data.{Data, Items, Members, as_str, as_table, get_member}
 use Rattle.event_class.specs.declared.pickable.Pickable.{Pickable}
 use Rattle.event_class.specs.declared.pickable.Pickable.TheVariants.{Every}
 use Rattle.scenario_toml.specs.declared.fault.ScenarioFault.{ScenarioFault}
 use Rattle.scenario_toml.specs.declared.strategy.Strategy.{Strategy}
+use Rattle.scenario_toml.specs.declared.strategy.Strategy.TheVariants.{Surw}
 use Rattle.scenario_toml.specs.declared.watch.Watch.{Watch}
 use Rattle.scenario_toml.specs.Counts.{counts}
 use Rattle.scenario_toml.specs.Faults.{and_then}
 use Rattle.scenario_toml.specs.Keys.{max_steps, seed, depth}
 use Rattle.scenario_toml.specs.Monitors.{watch_item}
-use Rattle.scenario_toml.specs.Values.{array, list_or, meant, number_in, of_kind, required, text_in, text_item}
+use Rattle.scenario_toml.specs.Values.{array, list_or, meant, number_in, of_kind, required, text_item}
 use Rattle.scenario_toml.specs.Words.{pickable_of, strategy_of}
 
 -- the keys of the top table
@@ -26,15 +27,16 @@ pub record Settings : Type 0 where
   pub seed : ℕ
   pub depth : ℕ
 
--- the strategy has to be named
-abbrev pub strategy_in : Members → Result Strategy ScenarioFault
-strategy_in table = and_then (text_in [] table (codes "strategy")) (λ text. meant (codes "strategy") text (strategy_of text))
+-- the strategy is SURW where none is named
+abbrev pub strategy_in : Option Data → Result Strategy ScenarioFault
+strategy_in None = Ok Surw
+strategy_in (Some d) = and_then (of_kind (codes "strategy") (as_str d)) (λ text. meant (codes "strategy") text (strategy_of text))
 
 -- in their order
 unfoldable pub settings : Members → Result Settings ScenarioFault
 settings table =
     and_then (number_in [] table max_steps) (λ max_steps.
-    and_then (strategy_in table) (λ strategy.
+    and_then (strategy_in (get_member (codes "strategy") table)) (λ strategy.
     and_then (number_in [] table seed) (λ seed.
     and_then (number_in [] table depth) (λ depth.
     Ok (record { max_steps = max_steps; strategy = strategy; seed = seed; depth = depth })))))

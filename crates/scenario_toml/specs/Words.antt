@@ -11,17 +11,19 @@ use Rattle.event_class.specs.Selection.{pickable_text}
 use Rattle.scenario_toml.specs.declared.kind.Kind.{Kind}
 use Rattle.scenario_toml.specs.declared.kind.Kind.TheVariants as kind
 use Rattle.scenario_toml.specs.declared.strategy.Strategy.{Strategy}
-use Rattle.scenario_toml.specs.declared.strategy.Strategy.TheVariants.{Urw, Plain}
+use Rattle.scenario_toml.specs.declared.strategy.Strategy.TheVariants.{Urw, Surw, Pct, Plain}
 use Rattle.scenario_toml.specs.declared.watch.Watch.{Watch}
 use Rattle.scenario_toml.specs.declared.watch.Watch.TheVariants.{WriteAhead, LogWhole, Expect, CellEnd}
 
 -- the words of `strategy`
 abbrev pub strategy_text : Strategy → List ℕ
 strategy_text Urw = codes "urw"
+strategy_text Surw = codes "surw"
+strategy_text Pct = codes "pct"
 strategy_text Plain = codes "plain"
 
 abbrev pub strategy_of : List ℕ → Option Strategy
-strategy_of text = find (λ strategy. bytes_eq (strategy_text strategy) text) (Urw ∷ Plain ∷ [])
+strategy_of text = find (λ strategy. bytes_eq (strategy_text strategy) text) (Urw ∷ Surw ∷ Pct ∷ Plain ∷ [])
 
 -- the words of a thread's `kind`
 abbrev pub kind_text : Kind → List ℕ

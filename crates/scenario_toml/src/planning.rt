@@ -1,7 +1,8 @@
-ghost use Rattle.std.specs.Prelude.{◌≡◌, IfOk, None, length};
+ghost use Rattle.std.specs.Prelude.{◌≡◌, ◌≤◌, IfOk, None, length};
 ghost use Rattle.routine_kit.specs.declared.any_routine.AnyRoutine.{AnyRoutine};
 ghost use Rattle.run_rules.specs.Plan.{IsValidPlan};
-ghost use Rattle.scenario_toml.specs.Plan.{rule_by, selection_by, IsPlanOf};
+ghost use Rattle.walk_rules.specs.Walk.{IsDepth};
+ghost use Rattle.scenario_toml.specs.Plan.{rule_by, selection_by, HasDepth, IsPlanOf};
 
 use crate::{Choice, Scenario, Strategy};
 use draw_split::Weights;
@@ -14,9 +15,10 @@ use surw_base::OutOfMemory;
 use walk_rules::{Rule, Walk};
 
 impl Scenario {
-    /// The plan of a run under a choice without a seed, with a count for each thread. The selected draws are
-    /// those of the file's tape `selected`, the other draws those of its tape `other`. Under URW every event is
-    /// selected, else what the file says. The plan is valid. An error comes only where memory is refused.
+    /// The plan of a run under a choice without a seed, with a count for each thread. A depth that is chosen is
+    /// from 1 to 16. The selected draws are those of the file's tape `selected`, the other draws those of its
+    /// tape `other`. Under URW every event is selected, else what the file says. The plan is valid. An error
+    /// comes only where memory is refused.
     pub fn plan(
         &self,
         alloc: Global,
@@ -25,17 +27,19 @@ impl Scenario {
     ) -> Result<Plan<AnyRoutine, AnyDraws, AnyDraws>, OutOfMemory>
         requires counted { length counts.now ≡ length self.now.routines }
         requires no_seed { choice.now.seed ≡ None }
+        requires depth { HasDepth choice.now }
         ensures plan { IfOk result (IsPlanOf self.now choice.now counts.now) }
         ensures valid { IfOk result IsValidPlan }
     {
         let strategy = self.strategy(choice);
+        let rule = rule(strategy, self.depth(choice));
         let selected = StrictTape::new(Vec::from_slice(alloc, self.selected.as_slice())?);
         let other = LooseTape::new(Vec::from_slice(alloc, self.other.as_slice())?);
         Ok(Plan {
             world: self.size,
             routines: copies(alloc, self.routines.as_slice())?,
             selection: selection(alloc, strategy, &self.select)?,
-            walk: Walk::new(rule(strategy), Weights::new(counts.as_slice())),
+            walk: Walk::new(alloc, rule, Weights::new(counts.as_slice()))?,
             selected: AnyDraws::Strict(selected),
             other: AnyDraws::Loose(other),
             max_steps: self.max_steps,
@@ -44,12 +48,16 @@ impl Scenario {
     }
 }
 
-// The rule of a strategy.
-fn rule(strategy: Strategy) -> Rule
-    ensures { result ≡ rule_by strategy }
+// The rule of a strategy, where a depth is given.
+fn rule(strategy: Strategy, depth: u8) -> Rule
+    requires { (1 ≤ depth) × (depth ≤ 16) }
+    ensures same { result ≡ rule_by strategy depth }
+    ensures depth { IsDepth result }
 {
     match strategy {
         Strategy::Urw => Rule::Urw,
+        Strategy::Surw => Rule::Surw,
+        Strategy::Pct => Rule::Pct { depth },
         Strategy::Plain => Rule::Plain,
     }
 }
@@ -64,7 +72,7 @@ fn selection(
 {
     match strategy {
         Strategy::Urw => Ok(Selection::new(Vec::from_slice(alloc, &[Pickable::Every])?)),
-        Strategy::Plain => select.copy(alloc),
+        _ => select.copy(alloc),
     }
 }
 

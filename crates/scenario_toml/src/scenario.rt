@@ -1,6 +1,6 @@
 ghost use Rattle.std.specs.Prelude.{◌≡◌, ◌≤◌, length};
 ghost use Rattle.surw_base.specs.declared.limits.TheConstants.{THREADS};
-ghost use Rattle.scenario_toml.specs.Plan.{chosen_or, strategy_by};
+ghost use Rattle.scenario_toml.specs.Plan.{chosen_or, depth_by, strategy_by, HasDepth};
 
 use crate::{Choice, Strategy};
 use draw_split::Weights;
@@ -58,9 +58,10 @@ impl Scenario {
         }
     }
 
-    /// The depth: the choice's where it has one, else the file's.
+    /// The depth: the choice's where it has one, else the file's, which is from 1 to 16.
     pub fn depth(&self, choice: &Choice) -> u8
-        ensures { result ≡ chosen_or self.now.depth choice.now.depth }
+        ensures given { result ≡ depth_by self.now choice.now }
+        ensures within { HasDepth choice.now → (1 ≤ result) × (result ≤ 16) }
     {
         match choice.depth {
             Some(depth) => depth,

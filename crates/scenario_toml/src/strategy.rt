@@ -6,6 +6,11 @@ ghost use Rattle.scenario_toml.specs.Words.{strategy_of};
 pub enum Strategy {
     /// The next thread is picked with a weight equal to its number of events left.
     Urw,
+    /// A thread is intended with a weight equal to its number of selected events left, until it makes one.
+    Surw,
+    /// Each thread has a drawn priority, and the highest that can go on is picked. The depth says how often it
+    /// gets a low one.
+    Pct,
     /// Each thread that can go on is picked with equal weight.
     Plain,
 }
@@ -17,6 +22,8 @@ impl Strategy {
     {
         match text {
             b"urw" => Some(Strategy::Urw),
+            b"surw" => Some(Strategy::Surw),
+            b"pct" => Some(Strategy::Pct),
             b"plain" => Some(Strategy::Plain),
             _ => None,
         }

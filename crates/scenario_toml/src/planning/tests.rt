@@ -1,3 +1,5 @@
+ghost use Rattle.std.specs.Prelude.{◌≤◌};
+
 use super::*;
 use crate::read_scenario;
 use event_class::{Class, Event};
@@ -90,8 +92,9 @@ fn a_choice_goes_before_the_file(rt: HostRuntime) -> Result<(), Fail> {
 
 #[test]
 fn what_stands_for_the_keys_that_are_absent(rt: HostRuntime) -> Result<(), Fail> {
-    let file = b"strategy = 'plain'\ncounts = []\n[tapes]\n".as_slice();
+    let file = b"counts = []\n[tapes]\n".as_slice();
     let scenario = taken(rt.alloc(), file)?;
+    assert_eq!(rt; scenario.strategy(&NOTHING), Strategy::Surw);
     assert_eq!(rt; (scenario.seed(&NOTHING), scenario.depth(&NOTHING)), (0, 3));
     let mut plan = scenario.plan(rt.alloc(), &NOTHING, scenario.counts())?;
     assert_eq!(rt;
@@ -109,6 +112,29 @@ fn what_stands_for_the_keys_that_are_absent(rt: HostRuntime) -> Result<(), Fail>
     Ok(())
 }
 
+// Whether a walk is a new one of PCT with this depth, without threads.
+fn is_of_depth(alloc: Global, walk: &Walk, depth: u8) -> Result<bool, OutOfMemory>
+    requires { (1 ≤ depth) × (depth ≤ 16) }
+{
+    let due = Walk::new(alloc, Rule::Pct { depth }, Weights::new(&[]))?;
+    Ok(walk.same(&due))
+}
+
+#[test]
+fn pct_with_the_depth_of_the_file_and_of_the_choice(rt: HostRuntime) -> Result<(), Fail> {
+    let file = b"strategy = 'pct'\ndepth = 5\ncounts = []\n[tapes]\n".as_slice();
+    let scenario = taken(rt.alloc(), file)?;
+    let plan = scenario.plan(rt.alloc(), &NOTHING, scenario.counts())?;
+    assert!(rt; is_of_depth(rt.alloc(), &plan.walk, 5)?);
+    let choice = Choice {
+        depth: Some(16),
+        ..NOTHING
+    };
+    let plan = scenario.plan(rt.alloc(), &choice, scenario.counts())?;
+    assert!(rt; is_of_depth(rt.alloc(), &plan.walk, 16)?);
+    Ok(())
+}
+
 // How many events a routine announces, of at most ten, where no reply is that of the event before.
 fn events(routine: &mut AnyRoutine) -> u64 {
     for reply in 0..10 {
@@ -122,8 +148,7 @@ fn events(routine: &mut AnyRoutine) -> u64 {
 
 #[test]
 fn threads_without_times_and_tries(rt: HostRuntime) -> Result<(), Fail> {
-    let file = b"strategy = 'plain'
-counts = [1, 2]
+    let file = b"counts = [1, 2]
 tapes = {}
 [[thread]]
 kind = 'steps'

@@ -4,7 +4,7 @@ use std::process::Abort;
 use std::test::Fail;
 
 // The top keys that have to be there, as a file without threads has them.
-const HEAD: &str = "strategy = 'urw'\ncounts = []\ntapes = {}\n";
+const HEAD: &str = "counts = []\ntapes = {}\n";
 
 // A thread without a fault, and the head of a second one.
 const FIRST: &str = "[[thread]]\nkind = 'adder'\ncell = 0\n[[thread]]\n";
@@ -76,21 +76,21 @@ fn long(
 #[test]
 fn faults_of_the_steps_and_the_strategy(rt: HostRuntime) -> Result<(), Fail> {
     let rows = [
-        ("", "missing strategy"),
+        ("", "missing counts"),
         ("cels = 1", "unknown cels"),
         ("max_steps = 0\nzz = 1\nmm = 1\nnn = 1", "unknown mm"),
         ("max_steps = '1'", "wrong_kind max_steps"),
         ("max_steps = -1", "range max_steps -1 1 65536"),
         ("max_steps = 0", "range max_steps 0 1 65536"),
-        ("max_steps = 1", "missing strategy"),
-        ("max_steps = 65536", "missing strategy"),
+        ("max_steps = 1", "missing counts"),
+        ("max_steps = 65536", "missing counts"),
         ("max_steps = 65537", "range max_steps 65537 1 65536"),
         ("strategy = 1", "wrong_kind strategy"),
         ("strategy = 'sruw'\nseed = '7'", "name strategy sruw"),
         ("strategy = 'URW'", "name strategy URW"),
-        ("strategy = 'surw'", "name strategy surw"),
-        ("strategy = 'pct'", "name strategy pct"),
         ("strategy = 'urw'", "missing counts"),
+        ("strategy = 'surw'", "missing counts"),
+        ("strategy = 'pct'", "missing counts"),
         ("strategy = 'plain'", "missing counts"),
     ];
     assert_answers(&rt, rt.alloc(), "", &rows)
@@ -109,7 +109,7 @@ fn faults_of_the_seed_and_the_depth(rt: HostRuntime) -> Result<(), Fail> {
         ("depth = 16", "missing counts"),
         ("depth = 17", "range depth 17 1 16"),
     ];
-    assert_answers(&rt, rt.alloc(), "strategy = 'urw'\n", &rows)
+    assert_answers(&rt, rt.alloc(), "", &rows)
 }
 
 #[test]
@@ -143,7 +143,7 @@ fn faults_of_the_selection(rt: HostRuntime) -> Result<(), Fail> {
         ("select = ['cell  1']", "name select.0 cell  1"),
         ("select = ['disk 1']", "name select.0 disk 1"),
     ];
-    assert_answers(&rt, rt.alloc(), "strategy = 'urw'\n", &rows)
+    assert_answers(&rt, rt.alloc(), "", &rows)
 }
 
 #[test]
@@ -156,7 +156,7 @@ fn faults_of_the_counts(rt: HostRuntime) -> Result<(), Fail> {
         ("counts = [0, 65536]", "missing tapes"),
         ("counts = [65537]", "range counts.0 65537 0 65536"),
     ];
-    assert_answers(&rt, rt.alloc(), "strategy = 'urw'\n", &rows)
+    assert_answers(&rt, rt.alloc(), "", &rows)
 }
 
 #[test]
@@ -193,7 +193,7 @@ fn faults_of_the_monitors(rt: HostRuntime) -> Result<(), Fail> {
         ),
         ("monitors = ['expect ']", "name monitors.0 expect "),
     ];
-    assert_answers(&rt, rt.alloc(), "strategy = 'urw'\ncounts = []\n", &rows)
+    assert_answers(&rt, rt.alloc(), "counts = []\n", &rows)
 }
 
 #[test]
@@ -228,7 +228,7 @@ fn faults_of_the_tables_and_the_tapes(rt: HostRuntime) -> Result<(), Fail> {
             "wrong_kind tapes.selected",
         ),
     ];
-    assert_answers(&rt, rt.alloc(), "strategy = 'urw'\ncounts = []\n", &rows)
+    assert_answers(&rt, rt.alloc(), "counts = []\n", &rows)
 }
 
 #[test]
@@ -363,7 +363,7 @@ fn the_counts_come_after_the_threads_and_the_cells_last(rt: HostRuntime) -> Resu
             "name monitors.0 cell_end 64 0",
         ),
     ];
-    assert_answers(&rt, rt.alloc(), "strategy = 'urw'\ntapes = {}\n", &rows)
+    assert_answers(&rt, rt.alloc(), "tapes = {}\n", &rows)
 }
 
 #[test]
@@ -445,7 +445,7 @@ fn tapes_up_to_their_length(rt: HostRuntime) -> Result<(), Fail> {
         ("other", "0, ", 65_537, "range tapes.other 65537 0 65536"),
     ];
     for (tape, entry, times, fault) in &rows {
-        let front = format!(in rt.alloc(); "strategy = 'urw'\ncounts = []\ntapes.{tape} = [")?;
+        let front = format!(in rt.alloc(); "counts = []\ntapes.{tape} = [")?;
         let file = long(rt.alloc(), front.as_str(), entry, *times, "]")?;
         assert_eq!(rt;
             answer(rt.alloc(), file.as_bytes())?.as_str(),

@@ -11,7 +11,7 @@ ghost use Rattle.scenario_toml.specs.Words.{pickable_of};
 
 use crate::read::counts::read_counts;
 use crate::read::items::Item;
-use crate::read::values::{array_of, list_of, not_named, number_at, text_at, value_at};
+use crate::read::values::{array_of, list_of, not_named, number_at, value_at};
 use crate::watch::Watch;
 use crate::{KeyName, ScenarioFault, Strategy, keys};
 use event_class::{Pickable, read_pickable};
@@ -65,17 +65,22 @@ pub(crate) fn read_settings(alloc: Global, table: &Table) -> Result<Settings, Sc
     })
 }
 
-// The strategy that the file names.
+// The strategy that the file names, and SURW where it names none.
 fn strategy_at(alloc: Global, table: &Table) -> Result<Strategy, ScenarioFault>
-    ensures ok { IfOk result (λ strategy. strategy_in (table_view table.now) ≡ Ok strategy) }
-    ensures fault { IfErr result (IsFaultOf (strategy_in (table_view table.now))) }
+    ensures ok { IfOk result (λ strategy. strategy_in (get_member (codes "strategy") (table_view table.now)) ≡ Ok strategy) }
+    ensures fault { IfErr result (IsFaultOf (strategy_in (get_member (codes "strategy") (table_view table.now)))) }
 {
-    let text = text_at(alloc, b"", table, "strategy")?;
-    match Strategy::of(text.as_bytes()) {
-        Some(strategy) => Ok(strategy),
-        None => {
+    match value_at(table, "strategy") {
+        None => Ok(Strategy::Surw),
+        Some(value) => {
             let key = KeyName::new(alloc, b"", "strategy")?;
-            Err(not_named(alloc, key, text.as_bytes()))
+            match value.as_str() {
+                None => Err(ScenarioFault::WrongKind { key }),
+                Some(text) => match Strategy::of(text.as_bytes()) {
+                    Some(strategy) => Ok(strategy),
+                    None => Err(not_named(alloc, key, text.as_bytes())),
+                },
+            }
         }
     }
 }
