@@ -192,8 +192,8 @@ picks-choice : (setup : Setup) (x : Position) → WereAnswered surw_choices setu
 unfolding surw_choice
 picks-choice setup x answered = ap (λ f. surw_picked (seen_at setup x) f (without_first (length (asked_over (surw_choices.other_at setup) (earlier x)))
     (setup.other.answers (asked_over (surw_choices.other_at setup) (earlier x) ++ surw_bounds f)))) (pick-found setup x answered) where
-  surw_bounds : Result (Option ℕ) DrawFault → List ℕ
-  surw_bounds f = candidate_bounds (seen_at setup x) f
+      surw_bounds : Result (Option ℕ) DrawFault → List ℕ
+      surw_bounds f = candidate_bounds (seen_at setup x) f
 
 pub surw-follows : Follows surw surw_choices
 surw-follows = record {

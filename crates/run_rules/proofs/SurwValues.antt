@@ -1,5 +1,5 @@
 -- Choices of SURW, worked out: a lock is held over a selected store.
-use Rattle.std.proofs.Common.{◌≡◌, ℕ, List, [], ◌∷◌, true, false, None, Some, refl}
+use Rattle.std.proofs.Common.{◌≡◌, [], ◌∷◌, true, false, None, Some, refl}
 use Rattle.draw_split.specs.Bag.{bag, pick}
 use Rattle.event_class.specs.declared.event.Event.TheVariants.{Acquire, Release, Store}
 use Rattle.event_class.specs.declared.pickable.Pickable.TheVariants.{CellNo}

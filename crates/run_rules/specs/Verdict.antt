@@ -32,7 +32,7 @@ abbrev pub wrong_count : Setup → Position → Option Verdict
 wrong_count setup x =
     if counts_down setup.rule
     then option_map (λ thread. WrongCount (length x.journal) thread (slice_index setup.counts thread) (events_made setup.selection x.journal thread))
-        (first_miscounted setup x)
+    (first_miscounted setup x)
     else None
 
 -- no thread has a word

@@ -103,7 +103,7 @@ fn draw<S: Draws>(
             Ok(changes) => Ok((order, changes)),
             Err(fault) => Err(fault),
         },
-        Err(fault) => Err(fault),
+        Err(refusal) => Err(refusal),
     }
 }
 

@@ -1,6 +1,7 @@
 ghost use Rattle.std.specs.Prelude.{◌≡◌, ◌≤◌, ◌<◌, All, IfOk, length, sum};
 ghost use Rattle.surw_base.specs.declared.limits.TheConstants.{LINES, THREADS, STEPS};
 ghost use Rattle.routine_kit.specs.Line.{IsLine};
+ghost use Rattle.walk_rules.specs.Walk.{IsDepth};
 ghost use Rattle.run_rules.specs.Plan.{IsValidPlan};
 
 use super::*;
@@ -159,6 +160,7 @@ fn plan<R: Routine>(
     draws: &[u64],
     max_steps: u32,
 ) -> Result<Plan<R, StrictTape, LooseTape>, Fail>
+    requires depth { IsDepth rule }
     requires threads { length counts.now ≤ THREADS }
     requires counted { length counts.now ≡ length routines.items }
     requires few { sum counts.now ≤ STEPS }
@@ -175,7 +177,7 @@ fn plan<R: Routine>(
         world: SIZE,
         routines,
         selection: Selection::new(every),
-        walk: Walk::new(rule, Weights::new(counts)),
+        walk: Walk::new(rt.alloc(), rule, Weights::new(counts))?,
         selected: StrictTape::new(draws),
         other: LooseTape::new(Vec::new(rt.alloc())),
         max_steps,
