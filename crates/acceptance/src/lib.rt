@@ -8,4 +8,8 @@ mod draws;
 #[cfg(test)]
 mod order;
 #[cfg(test)]
+mod pct;
+#[cfg(test)]
 mod plan;
+#[cfg(test)]
+mod surw;

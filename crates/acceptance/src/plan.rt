@@ -5,7 +5,6 @@ use surw_io::{MemShelf, MemSink};
 
 // Two threads that each load a cell, add one to what they loaded, and store it.
 const LOST_UPDATE: &str = "\
-strategy = \"urw\"
 select = [\"cell\"]
 counts = [2, 2]
 monitors = [\"cell_end 0 2\"]
@@ -60,7 +59,7 @@ fn a_schedule_is_reported(rt: HostRuntime) -> Result<(), Fail> {
         (
             "lock_order_deadlock",
             "\
-strategy = \"urw\"
+select = [\"all\"]
 counts = [4, 4]
 world.locks = 2
 tapes.selected = [0, 3]
@@ -100,7 +99,6 @@ step 1 1 acquire 1 = 0
         (
             "more_events_than_counted",
             "\
-strategy = \"urw\"
 counts = [2, 1]
 world.cells = 1
 tapes.selected = [0, 1, 0]
@@ -141,7 +139,6 @@ step 2 0 swap_if 0 0 1 = 9
         (
             "fewer_events_than_counted",
             "\
-strategy = \"urw\"
 counts = [2, 1]
 world.cells = 1
 tapes.selected = [2, 1, 0]
@@ -179,7 +176,7 @@ step 1 0 load 0 = 7
         (
             "a tape that is too short",
             "\
-strategy = \"urw\"
+select = [\"cell\"]
 counts = [2, 2]
 monitors = [\"cell_end 0 2\"]
 world.cells = 1
@@ -221,7 +218,7 @@ step 2 0 store 0 1 = 0
         (
             "an entry that is too large",
             "\
-strategy = \"urw\"
+select = [\"cell\"]
 counts = [2, 2]
 monitors = [\"cell_end 0 2\"]
 world.cells = 1
@@ -406,7 +403,7 @@ step 0 0 check 0 1 = 1
 #[test]
 fn a_scenario_is_refused(rt: HostRuntime) -> Result<(), Fail> {
     for (file, printed) in [
-        ("", "fault scenario missing strategy\n"),
+        ("", "fault scenario missing counts\n"),
         ("= 1", "fault scenario not_toml\n"),
         ("strategy = \"sruw\"", "fault scenario name strategy sruw\n"),
         (

@@ -4,7 +4,6 @@ use Rattle.report_text.specs.Report.{report_text}
 use Rattle.routine_kit.specs.AnyRoutine as routine
 use Rattle.routine_kit.specs.declared.any_routine.AnyRoutine.{AnyRoutine}
 use Rattle.run_rules.proofs.Tellings.{telling-one}
-use Rattle.run_rules.specs.Plan.{script_of}
 use Rattle.run_rules.specs.Run.{IsRun, Ran}
 use Rattle.run_rules.specs.Setup.{Script}
 use Rattle.run_rules.specs.Told.{routines_say}
@@ -17,13 +16,9 @@ use Rattle.scenario_toml.specs.declared.fault.ScenarioFault.{ScenarioFault}
 use Rattle.seed_draws.specs.declared.any_draws.AnyDraws.{AnyDraws}
 use Rattle.surw_io.specs.Content.{Entry}
 use Rattle.surw_cli.specs.Answer.{Answer, IsPlanAnswer, NoScenario, Refusal, Report}
-use Rattle.surw_cli.specs.Planned.{IsRunOf, any_source, counts_by, no_choice, status_of_run}
+use Rattle.surw_cli.specs.Planned.{IsRunOf, any_source, counts_by, no_choice, script, status_of_run}
 use Rattle.surw_cli.specs.declared.fault.Fault.TheVariants.{Read, TooLong}
 use Rattle.surw_cli.proofs.OneFile.{IsFileAnswer, MakesOne}
-
--- a plan as the job runs it
-abbrev script : Plan AnyRoutine AnyDraws AnyDraws → Script
-script plan = script_of routine.any_announced routine.any_after (any_source plan.selected) (any_source plan.other) plan
 
 -- two plans of a scenario are run in the same way
 script-one : (scenario : ScenarioState) (choice : Choice) (counts : List ℕ) (plan twin : Plan AnyRoutine AnyDraws AnyDraws)

@@ -8,9 +8,11 @@ use Rattle.run_rules.specs.declared.verdict.Verdict.{Verdict}
 use Rattle.run_rules.specs.declared.verdict.Verdict.TheVariants as verdict
 use Rattle.run_rules.specs.Plan.{script_of}
 use Rattle.run_rules.specs.Run.{IsRun, Ran}
+use Rattle.run_rules.specs.Setup.{Script}
+use Rattle.selected_order.specs.KeepsOrder.{KeepsOrder}
 use Rattle.scenario_toml.specs.declared.choice.Choice.{Choice}
 use Rattle.scenario_toml.specs.declared.strategy.Strategy.{Strategy}
-use Rattle.scenario_toml.specs.declared.strategy.Strategy.TheVariants.{Urw, Plain}
+use Rattle.scenario_toml.specs.declared.strategy.Strategy.TheVariants.{Plain}
 use Rattle.scenario_toml.specs.Plan.{IsPlanOf}
 use Rattle.scenario_toml.specs.State.{ScenarioState}
 use Rattle.seed_draws.specs.declared.any_draws.AnyDraws.{AnyDraws}
@@ -21,8 +23,8 @@ use Rattle.surw_cli.specs.declared.status.Status.TheVariants.{Done, Failing, Wro
 
 -- the counts that a run is made with: under the plain strategy zeros, else those of the file
 abbrev pub counts_by : Strategy → ScenarioState → List ℕ
-counts_by Urw scenario = scenario.counts
 counts_by Plain scenario = replicate (length scenario.routines) 0
+counts_by strategy scenario = scenario.counts
 
 -- nothing is chosen in place of the file's values
 abbrev pub no_choice : Choice
@@ -32,11 +34,16 @@ no_choice = record { strategy = None; seed = None; depth = None }
 abbrev pub any_source : AnyDraws → Source
 any_source source = source_of any_draws source
 
--- the run of the scenario's plan
+-- a plan of a scenario, by its setup and by what its routines announce
+abbrev pub script : Plan AnyRoutine AnyDraws AnyDraws → Script
+script plan = script_of routine.any_announced routine.any_after (any_source plan.selected) (any_source plan.other) plan
+
+-- the run of the scenario's plan; under SURW it keeps the promise on the order of the selected events
 pub record IsRunOf (scenario : ScenarioState) (ran : Ran) : Type 0 where
   pub plan : Plan AnyRoutine AnyDraws AnyDraws
   pub planned : IsPlanOf scenario no_choice (counts_by scenario.strategy scenario) plan
-  pub run : IsRun (script_of routine.any_announced routine.any_after (any_source plan.selected) (any_source plan.other) plan) ran
+  pub run : IsRun (script plan) ran
+  pub order : KeepsOrder (script plan) ran
 
 -- the status of a verdict, where a monitor failed or none did
 abbrev pub status_by : Verdict → Bool → Status

@@ -47,7 +47,9 @@ fn counts(scenario: &Scenario) -> Weights
     ensures { result ≡ counts_by scenario.now.strategy scenario.now }
 {
     match scenario.strategy(&NO_CHOICE) {
-        Strategy::Urw => Weights::new(scenario.counts().as_slice()),
+        Strategy::Urw | Strategy::Surw | Strategy::Pct => {
+            Weights::new(scenario.counts().as_slice())
+        }
         Strategy::Plain => Weights::new(&[0; THREADS][..scenario.threads()]),
     }
 }

@@ -22,6 +22,7 @@ returns-clause-report g c =
         plan = c.in_ok-plan.plan;
         planned = rw (← c.counts-counts.ensures) c.in_ok-plan.ensures.plan;
         run = c.in_ok-run.ensures.run;
+        order = c.in_ok-run.ensures.order;
       };
       printed = c.in_ok-text.ensures;
       ends = c.status_of.ensures;
