@@ -14,7 +14,8 @@ use Rattle.frame_links.proofs.NodeTakenOut.{AreLinkedBut}
 -- what putting a node in writes
 pub links-put_in : (after before : List ℕ) (node right : ℕ) → node < length after → node < length before → right < length before → slice_index before right < length after
     → right ≢ node → slice_index before right ≢ node
-    → IsPutIn (slice_index after) (slice_index before) (slice_index (way_with after (slice_index before right) node right)) (slice_index (way_with before right node (slice_index before right))) (slice_index before right) node right
+    → IsPutIn (slice_index after) (slice_index before) (slice_index (way_with after (slice_index before right) node right))
+    (slice_index (way_with before right node (slice_index before right))) (slice_index before right) node right
 links-put_in after before node right node_after node_before right_in left_in right_apart left_apart =
     let left : ℕ = slice_index before right in
     record {
@@ -43,7 +44,8 @@ place-points nodes lists list front back right tail place =
     ∙ sym (append_assoc (points_up_to nodes lists list) front (right ∷ tail))
 
 -- the points after a node was put in there
-pub place-filled : (nodes : ℕ) (lists : List (List ℕ)) (list : ℕ) (front back : List ℕ) (right : ℕ) (tail : List ℕ) (node : ℕ) → IsPlace nodes lists list front back right tail
+pub place-filled : (nodes : ℕ) (lists : List (List ℕ)) (list : ℕ) (front back : List ℕ) (right : ℕ) (tail : List ℕ) (node : ℕ)
+    → IsPlace nodes lists list front back right tail
     → points_past nodes (slice_set lists list (front ++ node ∷ back)) ≡ (points_up_to nodes lists list ++ front) ++ node ∷ right ∷ tail
 place-filled nodes lists list front back right tail node place =
     let ends : List ℕ = suc (nodes + list) ∷ points_beyond nodes lists list in
@@ -66,15 +68,20 @@ links-with after before owners lists node list front back right tail but low pla
     let owners_new : List ℕ = slice_set owners node list in
     let ahead : List ℕ = points_up_to end lists list ++ front in
     let whole : points_past end lists ≡ ahead ++ right ∷ tail = place-points end lists list front back right tail place in
-    let path : IsPath (slice_index after) (slice_index before) end (ahead ++ right ∷ tail) = subst (λ (l : List ℕ). IsPath (slice_index after) (slice_index before) end l) whole but.path in
+    let path : IsPath (slice_index after) (slice_index before) end (ahead ++ right ∷ tail) =
+    subst (λ (l : List ℕ). IsPath (slice_index after) (slice_index before) end l) whole but.path in
     let most : (point : ℕ) → times point (end ∷ points_past end lists) ≤ 1 = points-once_but end lists node but.gone but.once but.within in
     let once : (point : ℕ) → times point (end ∷ ahead ++ right ∷ tail) ≤ 1 = subst (λ (l : List ℕ). (point : ℕ) → times point (end ∷ l) ≤ 1) whole most in
-    let none : times node (end ∷ points_past end lists) ≡ 0 = times-other node end (points_past end lists) (λ e. omega (arith, e, low)) ∙ points-low node end lists (omega (arith, low)) ∙ but.gone in
+    let none : times node (end ∷ points_past end lists) ≡ 0 = times-other node end (points_past end lists) (λ e. omega (arith, e, low))
+    ∙ points-low node end lists (omega (arith, low)) ∙ but.gone in
     let absent : times node (end ∷ ahead ++ right ∷ tail) ≡ 0 = subst (λ (l : List ℕ). times node (end ∷ l) ≡ 0) whole none in
     let last : left ≡ last_of end ahead = path-before (slice_index after) (slice_index before) end ahead right tail path in
     let right_there : 1 ≤ times right (ahead ++ right ∷ tail) = omega (arith, times-append right ahead (right ∷ tail), times-same right right tail refl) in
-    let right_all : 1 ≤ times right (end ∷ points_past end lists) = omega (arith, subst (λ (l : List ℕ). 1 ≤ times right l) (sym whole) right_there, times-cons_le right end (points_past end lists)) in
-    let left_all : 1 ≤ times left (end ∷ points_past end lists) = path-before_in (slice_index after) (slice_index before) end (points_past end lists) right but.path (subst (λ (l : List ℕ). 1 ≤ times right l) (sym whole) right_there) in
+    let right_all : 1 ≤ times right (end ∷ points_past end lists) =
+    omega (arith, subst (λ (l : List ℕ). 1 ≤ times right l) (sym whole) right_there, times-cons_le right end (points_past end lists)) in
+    let left_all : 1 ≤ times left (end ∷ points_past end lists) =
+    path-before_in (slice_index after) (slice_index before) end (points_past end lists) right but.path
+    (subst (λ (l : List ℕ). 1 ≤ times right l) (sym whole) right_there) in
     let right_in : right < length before = omega (arith, but.both, but.points, points-within right end lists but.within right_all) in
     let left_in : left < length after = omega (arith, but.points, points-within left end lists but.within left_all) in
     let put : IsPutIn (slice_index after) (slice_index before) (slice_index after_new) (slice_index before_new) left node right =
@@ -85,26 +92,34 @@ links-with after before owners lists node list front back right tail but low pla
     let length_before : length before_new ≡ length before = length-set (slice_set before right node) node left ∙ length-set before right node in
     let path_new : IsPath (slice_index after_new) (slice_index before_new) end (points_past end lists_new) =
     subst (λ (l : List ℕ). IsPath (slice_index after_new) (slice_index before_new) end l) (sym (place-filled end lists list front back right tail node place))
-    (path-put_in (slice_index after) (slice_index before) (slice_index after_new) (slice_index before_new) left node right put end ahead tail path (sym last) once absent) in
+    (path-put_in (slice_index after) (slice_index before) (slice_index after_new) (slice_index before_new) left node right put end ahead tail path
+    (sym last) once absent) in
     let there_new : (other : ℕ) → times_in other lists_new + times other (front ++ back) ≡ times_in other lists + times other items =
     λ other. ap (λ (l : List ℕ). times_in other lists_new + times other l) (sym place.parts) ∙ times_in-set other lists list items place.there in
     let split : (other : ℕ) → times other (front ++ back) ≡ times other front + times other back = λ other. times-append other front back in
     let split_new : (other : ℕ) → times other items ≡ times other front + times other (node ∷ back) = λ other. times-append other front (node ∷ back) in
     let others : (other : ℕ) → other ≢ node → times other items ≡ times other (list_at lists list) =
-    λ other ne. split_new other ∙ ap (λ n. times other front + n) (times-other other node back (λ e. ne (sym e))) ∙ sym (split other) ∙ ap (times other) (sym place.parts) in
+    λ other ne. split_new other ∙ ap (λ n. times other front + n) (times-other other node back (λ e. ne (sym e))) ∙ sym (split other)
+    ∙ ap (times other) (sym place.parts) in
     let in_items : 1 ≤ times node items = omega (arith, split_new node, times-same node node back refl) in
     record {
       path = subst (λ n. IsPath (slice_index after_new) (slice_index before_new) n (points_past n lists_new)) (sym same_end) path_new;
       once = λ other lt. elim (cases_eq other node) as (λ _. times_in other lists_new ≡ 1) [
-        | inl same ↦ subst (λ n. times_in n lists_new ≡ 1) (sym same) (omega (arith, there_new node, split node, split_new node, times-same node node back refl, but.gone))
-        | inr ne ↦ omega (arith, there_new other, split other, split_new other, times-other other node back (λ e. ne (sym e)), but.once other ne (omega (arith, lt, same_end)))
+        | inl same ↦ subst (λ n. times_in n lists_new ≡ 1) (sym same)
+        (omega (arith, there_new node, split node, split_new node, times-same node node back refl, but.gone))
+        | inr ne ↦ omega (arith, there_new other, split other, split_new other, times-other other node back (λ e. ne (sym e)), but.once other ne
+        (omega (arith, lt, same_end)))
       ];
-      within = λ other le. omega (arith, there_new other, split other, split_new other, times-other other node back (λ e. omega (arith, e, low, le, same_end)), but.within other (omega (arith, le, same_end)));
+      within = λ other le. omega (arith, there_new other, split other, split_new other, times-other other node back
+      (λ e. omega (arith, e, low, le, same_end)), but.within other (omega (arith, le, same_end)));
       owned = λ other lt. elim (cases_eq other node) as (λ _. slice_index owners_new other ≡ list_of lists_new other) [
-        | inl same ↦ ap (slice_index owners_new) same ∙ get_or-set_same owners node list 0 low ∙ sym (ap (list_of lists_new) same ∙ list_of-set_new node lists list items place.there but.gone in_items)
-        | inr ne ↦ get_or-set_other owners node other list 0 ne ∙ but.owned other ne (omega (arith, lt, same_end)) ∙ sym (list_of-set_other other lists list items (others other ne))
+        | inl same ↦ ap (slice_index owners_new) same ∙ get_or-set_same owners node list 0 low
+        ∙ sym (ap (list_of lists_new) same ∙ list_of-set_new node lists list items place.there but.gone in_items)
+        | inr ne ↦ get_or-set_other owners node other list 0 ne ∙ but.owned other ne (omega (arith, lt, same_end))
+        ∙ sym (list_of-set_other other lists list items (others other ne))
       ];
-      nodes = omega (arith, node_count-set lists list items place.there, ap length place.parts, length-append front back, length-append front (node ∷ back), but.nodes, same_end);
+      nodes = omega (arith, node_count-set lists list items place.there, ap length place.parts, length-append front back, length-append front
+      (node ∷ back), but.nodes, same_end);
       points = omega (arith, length_after, but.points, same_end, length-set lists list items);
       both = omega (arith, length_before, length_after, but.both);
       fits = omega (arith, same_end, but.fits);

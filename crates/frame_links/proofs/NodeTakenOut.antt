@@ -26,16 +26,20 @@ pub record HasNeighbours (after before : List ℕ) (node : ℕ) : Type 0 where
   pub next : slice_index after node < length before
   pub last : slice_index before node < length after
 
-pub neighbours : (after before owners : List ℕ) (lists : List (List ℕ)) (node : ℕ) → AreLinked after before owners lists → node < length owners → HasNeighbours after before node
+pub neighbours : (after before owners : List ℕ) (lists : List (List ℕ)) (node : ℕ) → AreLinked after before owners lists → node < length owners
+    → HasNeighbours after before node
 neighbours after before owners lists node are low =
     let there : 1 ≤ times node (points_past (length owners) lists) = omega (arith, points-low node (length owners) lists (omega (arith, low)), are.once node low) in
-    let in_all : 1 ≤ times node (length owners ∷ points_past (length owners) lists) = omega (arith, there, times-cons_le node (length owners) (points_past (length owners) lists)) in
+    let in_all : 1 ≤ times node (length owners ∷ points_past (length owners) lists) =
+    omega (arith, there, times-cons_le node (length owners) (points_past (length owners) lists)) in
     let next_in : 1 ≤ times (slice_index after node) (points_past (length owners) lists) =
-    path-after_in (slice_index after) (slice_index before) (length owners) (points_past (length owners) lists) node are.path in_all (λ e. omega (arith, e, low, points-last (length owners) lists)) in
+    path-after_in (slice_index after) (slice_index before) (length owners) (points_past (length owners) lists) node are.path in_all
+    (λ e. omega (arith, e, low, points-last (length owners) lists)) in
     let last_in : 1 ≤ times (slice_index before node) (length owners ∷ points_past (length owners) lists) =
     path-before_in (slice_index after) (slice_index before) (length owners) (points_past (length owners) lists) node are.path there in
     record {
-      next = omega (arith, are.both, are.points, points-within (slice_index after node) (length owners) lists are.within (omega (arith, next_in, times-cons_le (slice_index after node) (length owners) (points_past (length owners) lists))));
+      next = omega (arith, are.both, are.points, points-within (slice_index after node) (length owners) lists are.within
+      (omega (arith, next_in, times-cons_le (slice_index after node) (length owners) (points_past (length owners) lists))));
       last = omega (arith, are.points, points-within (slice_index before node) (length owners) lists are.within last_in);
     }
 
@@ -69,6 +73,7 @@ links-without after before owners lists node are low =
       owned = λ other ne lt. are.owned other lt ∙ sym (list_of-taken_out other node lists ne);
       nodes = omega (arith, node_count-taken_out node lists, are.once node low, are.nodes);
       points = omega (arith, are.points, length-set after (slice_index before node) (slice_index after node), length-map lists (without node));
-      both = omega (arith, are.both, length-set after (slice_index before node) (slice_index after node), length-set before (slice_index after node) (slice_index before node));
+      both = omega (arith, are.both, length-set after (slice_index before node) (slice_index after node), length-set before (slice_index after node)
+      (slice_index before node));
       fits = are.fits;
     }

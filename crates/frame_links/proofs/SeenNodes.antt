@@ -10,7 +10,8 @@ pub links-seen : (after before owners : List ℕ) (lists : List (List ℕ)) → 
 links-seen after before owners lists are = subst (λ l. AreLinked after before owners l) (sym (lists-linked after before owners lists are)) are
 
 -- a node that a caller may name
-pub low-node : (after before owners : List ℕ) (lists seen : List (List ℕ)) (node named : ℕ) → AreLinked after before owners lists → lists ≡ seen → node ≡ named → named < node_count seen → node < length owners
+pub low-node : (after before owners : List ℕ) (lists seen : List (List ℕ)) (node named : ℕ) → AreLinked after before owners lists → lists ≡ seen
+    → node ≡ named → named < node_count seen → node < length owners
 low-node after before owners lists seen node named are same is low = omega (arith, low, is, ap node_count same, are.nodes)
 
 -- what is linked has each node once
@@ -31,8 +32,10 @@ pub length-just_before : (lists : List (List ℕ)) (node other : ℕ) → length
 length-just_before lists node other = length-map (taken_out node lists) (with_before node other) ∙ length-map lists (without node)
 
 -- the same nodes are linked before a move and after it, as a contract sees both
-pub same-nodes : (after before owners after_new before_new owners_new : List ℕ) (lists seen lists_new : List (List ℕ)) → AreLinked after_new before_new owners_new lists_new
-    → length owners_new ≡ length owners → lists ≡ seen → AreLinked after before owners lists → length lists_new ≡ length lists → HasSameNodes seen (linked_lists after_new owners_new)
+pub same-nodes : (after before owners after_new before_new owners_new : List ℕ) (lists seen lists_new : List (List ℕ))
+    → AreLinked after_new before_new owners_new lists_new
+    → length owners_new ≡ length owners → lists ≡ seen → AreLinked after before owners lists → length lists_new ≡ length lists
+    → HasSameNodes seen (linked_lists after_new owners_new)
 same-nodes after before owners after_new before_new owners_new lists seen lists_new are_new same is are many =
     rw (lists-linked after_new before_new owners_new lists_new are_new) (record {
       lists = omega (arith, many, ap length is);

@@ -69,7 +69,8 @@ module _ (setup : Setup) (x : Position) (source_s : IsSource setup.selected.answ
   pub granted-answered : (thread : ℕ) (forced : Bool) → choice setup x ≡ Grant thread forced → WereAnswered (choices setup.rule) setup (earlier x ++ x ∷ [])
   granted-answered thread forced granted =
       let f = follows setup.rule in
-      let ok = (is-strategy setup.rule).answered (walk_at setup x) (seen_at setup x) (answers_after setup.selected.answers asked_s) (answers_after setup.other.answers asked_o)
+      let ok = (is-strategy setup.rule).answered (walk_at setup x) (seen_at setup x) (answers_after setup.selected.answers asked_s)
+      (answers_after setup.other.answers asked_o)
       thread forced rest-s rest-o (f.picks setup x answered ∙ granted) in
       let here_s : IsOk (answers_after setup.selected.answers asked_s ((choices setup.rule).selected_at setup x)) =
       subst (λ bounds. IsOk (answers_after setup.selected.answers asked_s bounds)) (f.asks_selected setup x answered) ok.0 in
@@ -98,7 +99,8 @@ module _ (setup : Setup) (x : Position) (source_s : IsSource setup.selected.answ
         chosen = chosen-under setup.rule (world_at setup x) setup.selection x.words valid.every;
       } in
       subst (λ picked. GrantsAble (seen_at setup x) picked) ((follows setup.rule).picks setup x answered ∙ granted)
-      ((is-strategy setup.rule).able (walk_at setup x) (seen_at setup x) (answers_after setup.selected.answers asked_s) (answers_after setup.other.answers asked_o) rest-s rest-o can)
+      ((is-strategy setup.rule).able (walk_at setup x) (seen_at setup x) (answers_after setup.selected.answers asked_s)
+      (answers_after setup.other.answers asked_o) rest-s rest-o can)
 
 -- no earlier position has a verdict
 abbrev pub GoesSoFar : Setup → Position → Type 0

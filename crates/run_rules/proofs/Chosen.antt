@@ -17,11 +17,13 @@ chosen-event : (enabled : Bool) → IsTrue (is_chosen (cond enabled (Able true) 
 chosen-event true = refl
 chosen-event false = refl
 
-chosen-word : (world : WorldState) (word : Option Event) → IsTrue (is_announcing (seen_word world (Every ∷ []) word)) → IsTrue (is_chosen (seen_word world (Every ∷ []) word))
+chosen-word : (world : WorldState) (word : Option Event) → IsTrue (is_announcing (seen_word world (Every ∷ []) word))
+    → IsTrue (is_chosen (seen_word world (Every ∷ []) word))
 chosen-word world None announces = absurd (false≢true announces)
 chosen-word world (Some event) announces = chosen-event (is_enabled world event)
 
-chosen-words : (world : WorldState) (words : List (Option Event)) → All (λ seen. IsTrue (is_announcing seen) → IsTrue (is_chosen seen)) (map (seen_word world (Every ∷ [])) words)
+chosen-words : (world : WorldState) (words : List (Option Event))
+    → All (λ seen. IsTrue (is_announcing seen) → IsTrue (is_chosen seen)) (map (seen_word world (Every ∷ [])) words)
 chosen-words world words =
     All-map (λ seen. IsTrue (is_announcing seen) → IsTrue (is_chosen seen)) (seen_word world (Every ∷ [])) words
     (All-from_get_or (λ word. IsTrue (is_announcing (seen_word world (Every ∷ []) word)) → IsTrue (is_chosen (seen_word world (Every ∷ []) word))) words None

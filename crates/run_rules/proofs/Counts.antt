@@ -59,7 +59,8 @@ first-wrong setup x =
     ∙ wrong-word (world_at setup x) setup.selection (get_or setup.counts thread 0) (events_made setup.selection x.journal thread) (get_or x.words thread None))
 
 -- what a wrong thread made is its count less what is left
-wrong-made : (step counted left made thread : ℕ) → left ≡ counted - made → made ≤ counted → WrongCount step thread counted (counted - left) ≡ WrongCount step thread counted made
+wrong-made : (step counted left made thread : ℕ) → left ≡ counted - made → made ≤ counted
+    → WrongCount step thread counted (counted - left) ≡ WrongCount step thread counted made
 wrong-made step counted left made thread is within = ap (λ n. WrongCount step thread counted n) (omega (arith, is, within))
 
 named : (setup : Setup) (x : Position) (o : Option ℕ) → ((thread : ℕ) → events_made setup.selection x.journal thread ≤ get_or setup.counts thread 0)
@@ -74,7 +75,8 @@ named setup x (Some thread) made =
 counts-follow : (counting : Bool) (setup : Setup) (x : Position)
     → (IsTrue counting → (thread : ℕ) → events_made setup.selection x.journal thread ≤ get_or setup.counts thread 0)
     → option_map (λ (w : ℕ × ℕ × ℕ). WrongCount (length x.journal) w.0 w.1 w.2) (wrong_by counting setup.counts (left_by counting setup x) (seen_at setup x))
-    ≡ cond counting (option_map (λ thread. WrongCount (length x.journal) thread (get_or setup.counts thread 0) (events_made setup.selection x.journal thread)) (first_miscounted setup x)) None
+    ≡ cond counting (option_map (λ thread. WrongCount (length x.journal) thread (get_or setup.counts thread 0)
+    (events_made setup.selection x.journal thread)) (first_miscounted setup x)) None
 counts-follow true setup x made =
     ap (λ o. option_map (λ (w : ℕ × ℕ × ℕ). WrongCount (length x.journal) w.0 w.1 w.2)
     (option_map (λ thread. (thread, get_or setup.counts thread 0, get_or setup.counts thread 0 - get_or (left_at setup x) thread 0)) o)) (first-wrong setup x)
@@ -94,11 +96,13 @@ none-mapped f None none = refl
 none-mapped f (Some x) none = absurd (none-some (f x) (sym none))
 
 right-counts : (counting : Bool) (setup : Setup) (x : Position)
-    → cond counting (option_map (λ thread. WrongCount (length x.journal) thread (get_or setup.counts thread 0) (events_made setup.selection x.journal thread)) (first_miscounted setup x)) None ≡ None
+    → cond counting (option_map (λ thread. WrongCount (length x.journal) thread (get_or setup.counts thread 0)
+    (events_made setup.selection x.journal thread)) (first_miscounted setup x)) None ≡ None
     → wrong_by counting setup.counts (left_by counting setup x) (seen_at setup x) ≡ None
 right-counts true setup x none =
     let found = first-wrong setup x
-    ∙ none-mapped (λ thread. WrongCount (length x.journal) thread (get_or setup.counts thread 0) (events_made setup.selection x.journal thread)) (first_miscounted setup x) none in
+    ∙ none-mapped (λ thread. WrongCount (length x.journal) thread (get_or setup.counts thread 0) (events_made setup.selection x.journal thread))
+    (first_miscounted setup x) none in
     ap (λ o. option_map (λ thread. (thread, get_or setup.counts thread 0, get_or setup.counts thread 0 - get_or (left_at setup x) thread 0)) o) found
 right-counts false setup x none = refl
 
@@ -108,10 +112,12 @@ pub counts-right : (setup : Setup) (x : Position) → wrong_count setup x ≡ No
 counts-right setup x none = right-counts (counts_down setup.rule) setup x none
 
 miscounted-none : (counting : Bool) (setup : Setup) (x : Position) → IsTrue counting
-    → cond counting (option_map (λ thread. WrongCount (length x.journal) thread (get_or setup.counts thread 0) (events_made setup.selection x.journal thread)) (first_miscounted setup x)) None ≡ None
+    → cond counting (option_map (λ thread. WrongCount (length x.journal) thread (get_or setup.counts thread 0)
+    (events_made setup.selection x.journal thread)) (first_miscounted setup x)) None ≡ None
     → first_miscounted setup x ≡ None
 miscounted-none true setup x counts none =
-    none-mapped (λ thread. WrongCount (length x.journal) thread (get_or setup.counts thread 0) (events_made setup.selection x.journal thread)) (first_miscounted setup x) none
+    none-mapped (λ thread. WrongCount (length x.journal) thread (get_or setup.counts thread 0) (events_made setup.selection x.journal thread))
+    (first_miscounted setup x) none
 miscounted-none false setup x counts none = cc
 
 -- and no thread is miscounted, where the rule counts

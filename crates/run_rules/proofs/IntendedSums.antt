@@ -83,7 +83,8 @@ module _ (selection : List Pickable) (counts : List ℕ) where
         | inr no_end ↦
             ap positive_sums (lefts-kept selection counts journal entry no_end)
             ∙ sym (append-nil (positive_sums (lefts_of journal)))
-            ∙ ap (λ (b : Bool). positive_sums (lefts_of journal) ++ cond (b && ltb 0 (sum left)) (sum left ∷ []) []) (sym (fresh-more selection journal entry false no_end))
+            ∙ ap (λ (b : Bool). positive_sums (lefts_of journal) ++ cond (b && ltb 0 (sum left)) (sum left ∷ []) [])
+            (sym (fresh-more selection journal entry false no_end))
       ]
 
   -- what is asked after each of so many fronts
@@ -127,7 +128,8 @@ module _ (selection : List Pickable) (counts : List ℕ) where
       ∙ flat_map-more ask fronts journal
 
 -- by positions
-flat-positions : (ask : List Entry → List ℕ) (x : Position) (ks : List ℕ) → flat_map (λ y. ask y.journal) (map (position_at x) ks) ≡ flat_map ask (map (λ k. take k x.journal) ks)
+flat-positions : (ask : List Entry → List ℕ) (x : Position) (ks : List ℕ)
+    → flat_map (λ y. ask y.journal) (map (position_at x) ks) ≡ flat_map ask (map (λ k. take k x.journal) ks)
 unfolding position_at
 flat-positions ask x [] = refl
 flat-positions ask x (k ∷ ks) = ap (λ rest. ask (take k x.journal) ++ rest) (flat-positions ask x ks)

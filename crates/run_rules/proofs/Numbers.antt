@@ -53,7 +53,8 @@ left-one selection counts journal entry selected thread within =
     let more : events_made selection (journal ++ entry ∷ []) thread ≡ events_made selection journal thread + cond (entry.thread == thread) 1 0 =
     made-more selection journal entry thread
     ∙ ap (λ (b : Bool). events_made selection journal thread + cond (b && (entry.thread == thread)) 1 0) selected in
-    let whole : get_or (numbers_left selection counts (journal ++ entry ∷ [])) thread 0 ≡ get_or counts thread 0 - (events_made selection journal thread + cond (entry.thread == thread) 1 0) =
+    let whole : get_or (numbers_left selection counts (journal ++ entry ∷ [])) thread 0 ≡ get_or counts thread 0 -
+    (events_made selection journal thread + cond (entry.thread == thread) 1 0) =
     left-place selection counts (journal ++ entry ∷ []) thread within ∙ ap (λ n. get_or counts thread 0 - n) more in
     let part : get_or left thread 0 ≡ get_or counts thread 0 - events_made selection journal thread = left-place selection counts journal thread within in
     let long : length left ≡ length counts = length-left selection counts journal in
@@ -85,7 +86,8 @@ unfolding less_one
 left-more selection counts journal entry selected =
     ext_get_or 0 (numbers_left selection counts (journal ++ entry ∷ [])) (less_one (numbers_left selection counts journal) entry.thread)
     (length-left selection counts (journal ++ entry ∷ [])
-    ∙ sym (length-set (numbers_left selection counts journal) entry.thread (get_or (numbers_left selection counts journal) entry.thread 0 - 1) ∙ length-left selection counts journal))
+    ∙ sym (length-set (numbers_left selection counts journal) entry.thread (get_or (numbers_left selection counts journal) entry.thread 0 - 1)
+    ∙ length-left selection counts journal))
     (λ thread below. left-one selection counts journal entry selected thread (rw (sym (length-left selection counts (journal ++ entry ∷ []))) below))
 
 -- those of one whose entry more isn't selected: the same

@@ -98,7 +98,8 @@ module _ (setup : Setup) (x : Position) (answered : WereAnswered surw_choices se
   memory-fresh : fresh ≡ true → (surw_memory_at setup x).intended ≡ None
   memory-fresh is = ap (λ (b : Bool). cond b None (intended_or_none (intended_after setup x.journal))) is
 
-  memory-stale : fresh ≡ false → (found : Result (Option ℕ) DrawFault) → intended_after setup x.journal ≡ found → (surw_memory_at setup x).intended ≡ intended_or_none found
+  memory-stale : fresh ≡ false → (found : Result (Option ℕ) DrawFault) → intended_after setup x.journal ≡ found
+      → (surw_memory_at setup x).intended ≡ intended_or_none found
   memory-stale stale found is = ap (λ (b : Bool). cond b None (intended_or_none (intended_after setup x.journal))) stale ∙ ap intended_or_none is
 
   empty-ok : surw_selected_at setup x ≡ [] → IsOk (setup.selected.answers (intentions_asked setup x))
@@ -119,7 +120,8 @@ module _ (setup : Setup) (x : Position) (answered : WereAnswered surw_choices se
       kept-here None (setup.selected.answers (intentions_asked setup x)) (empty-ok bounds) none
       ∙ sym (found-none setup x (ap (λ l. ltb 0 (sum l)) (fresh-left is) ∙ none))
 
-  intention-stale : (b : Bool) → ltb 0 (sum (intention_left setup x)) ≡ b → fresh ≡ false → intention_by (surw_memory_at setup x).intended left here ≡ intended_after setup x.journal
+  intention-stale : (b : Bool) → ltb 0 (sum (intention_left setup x)) ≡ b → fresh ≡ false
+      → intention_by (surw_memory_at setup x).intended left here ≡ intended_after setup x.journal
   intention-stale true some stale =
       let found = stale-some stale some in
       ap (λ intended. intention_by intended left here) (memory-stale stale (Ok (Some found.0)) found.1)
@@ -164,15 +166,18 @@ keeps-met : (setup : Setup) (journal : List Entry) (entry : Entry) (before after
     → ends_intention setup.selection entry ≡ b
     → set after entry.thread (Some entry.event) ≡ before
     → intended_after setup journal ≡ Ok intended
-    → ◌≡◌ {A = Memory} (record new_memory { intended = cond (ends_intention setup.selection entry) None intended }) (surw_memory_at setup (record { journal = journal ++ entry ∷ []; words = after }))
+    → ◌≡◌ {A = Memory} (record new_memory { intended = cond (ends_intention setup.selection entry) None intended })
+    (surw_memory_at setup (record { journal = journal ++ entry ∷ []; words = after }))
 keeps-met setup journal entry before after true intended is word found =
     let y : Position = record { journal = journal ++ entry ∷ []; words = after } in
     ap (λ (b : Bool). record new_memory { intended = cond b None intended }) is
-    ∙ sym (ap (λ (b : Bool). record new_memory { intended = cond b None (intended_or_none (intended_after setup y.journal)) }) (fresh-more setup.selection journal entry true is))
+    ∙ sym (ap (λ (b : Bool). record new_memory { intended = cond b None (intended_or_none (intended_after setup y.journal)) })
+    (fresh-more setup.selection journal entry true is))
 keeps-met setup journal entry before after false intended is word found =
     let y : Position = record { journal = journal ++ entry ∷ []; words = after } in
     ap (λ (b : Bool). record new_memory { intended = cond b None intended }) is
-    ∙ sym (ap (λ (b : Bool). record new_memory { intended = cond b None (intended_or_none (intended_after setup y.journal)) }) (fresh-more setup.selection journal entry false is)
+    ∙ sym (ap (λ (b : Bool). record new_memory { intended = cond b None (intended_or_none (intended_after setup y.journal)) })
+    (fresh-more setup.selection journal entry false is)
     ∙ ap (λ f. record new_memory { intended = intended_or_none f }) (intended-kept setup journal entry is ∙ found))
 
 keeps-intention : (setup : Setup) (journal : List Entry) (entry : Entry) (before after : List (Option Event))

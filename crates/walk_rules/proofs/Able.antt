@@ -111,7 +111,8 @@ length-kept (number ∷ numbers) [] = ap suc (length-kept numbers [])
 length-kept (number ∷ numbers) (seen ∷ view) = ap suc (length-kept numbers view)
 
 -- the number kept for a thread
-pub kept-index : (left : List ℕ) (view : List Seen) (thread : ℕ) → get_or (kept_to_able left view) thread 0 ≡ cond (is_able (seen_of view thread)) (get_or left thread 0) 0
+pub kept-index : (left : List ℕ) (view : List Seen) (thread : ℕ)
+    → get_or (kept_to_able left view) thread 0 ≡ cond (is_able (seen_of view thread)) (get_or left thread 0) 0
 unfolding kept_to_able
 kept-index [] view thread = elim (is_able (seen_of view thread)) as (λ able. ◌≡◌ {A = ℕ} 0 (cond able 0 0)) [ true ↦ refl | false ↦ refl ]
 kept-index (number ∷ numbers) [] zero = refl
@@ -129,7 +130,8 @@ kept-able left view thread some =
       | inr cannot ↦ absurd (omega (arith, is ∙ cond-false (is_able (seen_of view thread)) (get_or left thread 0) 0 cannot))
     ]
 
-kept-some : (left : List ℕ) (view : List Seen) (draw : ℕ) → draw < sum (kept_to_able left view) → 0 < get_or (kept_to_able left view) (pick (kept_to_able left view) draw) 0
+kept-some : (left : List ℕ) (view : List Seen) (draw : ℕ) → draw < sum (kept_to_able left view)
+    → 0 < get_or (kept_to_able left view) (pick (kept_to_able left view) draw) 0
 kept-some left view draw lt = let at = placed (kept_to_able left view) draw lt in omega (arith, at.within)
 
 -- a place of the bag of what is kept is that of a thread that can go on
@@ -166,8 +168,10 @@ unfolding kept_to_able
 sum-kept [] view = omega arith
 sum-kept (number ∷ numbers) [] = omega (arith, sum_by-cons (λ x. x) number numbers, sum_by-cons (λ x. x) 0 (kept_to_able numbers []), sum-kept numbers [])
 sum-kept (number ∷ numbers) (Over ∷ view) = omega (arith, sum_by-cons (λ x. x) number numbers, sum_by-cons (λ x. x) 0 (kept_to_able numbers view), sum-kept numbers view)
-sum-kept (number ∷ numbers) (Held chosen ∷ view) = omega (arith, sum_by-cons (λ x. x) number numbers, sum_by-cons (λ x. x) 0 (kept_to_able numbers view), sum-kept numbers view)
-sum-kept (number ∷ numbers) (Able chosen ∷ view) = omega (arith, sum_by-cons (λ x. x) number numbers, sum_by-cons (λ x. x) number (kept_to_able numbers view), sum-kept numbers view)
+sum-kept (number ∷ numbers) (Held chosen ∷ view) =
+    omega (arith, sum_by-cons (λ x. x) number numbers, sum_by-cons (λ x. x) 0 (kept_to_able numbers view), sum-kept numbers view)
+sum-kept (number ∷ numbers) (Able chosen ∷ view) =
+    omega (arith, sum_by-cons (λ x. x) number numbers, sum_by-cons (λ x. x) number (kept_to_able numbers view), sum-kept numbers view)
 
 -- ---- the way through the threads that keeps their numbers
 

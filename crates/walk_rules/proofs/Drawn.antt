@@ -36,16 +36,19 @@ place-past (first ∷ rest) back thread none =
     place-rest first thread (rest ++ back) differ ∙ omega (arith, place-past rest back thread (omega (arith, none, times-other thread first rest differ)))
 
 -- going over an order until the thread comes
-pub place-here : (order : List ℕ) (place thread : ℕ) → place < length order → get_or order place 0 ≡ thread → place + place_of (drop place order) thread ≡ place_of order thread → place ≡ place_of order thread
+pub place-here : (order : List ℕ) (place thread : ℕ) → place < length order → get_or order place 0 ≡ thread
+    → place + place_of (drop place order) thread ≡ place_of order thread → place ≡ place_of order thread
 place-here order place thread lt same is =
     omega (arith, is, ap (λ l. place_of l thread) (drop_more order place 0 lt), place-first (get_or order place 0) thread (drop (place + 1) order) same)
 
-pub place-later : (order : List ℕ) (place thread : ℕ) → place < length order → get_or order place 0 ≢ thread → place + place_of (drop place order) thread ≡ place_of order thread
+pub place-later : (order : List ℕ) (place thread : ℕ) → place < length order → get_or order place 0 ≢ thread
+    → place + place_of (drop place order) thread ≡ place_of order thread
     → place + 1 + place_of (drop (place + 1) order) thread ≡ place_of order thread
 place-later order place thread lt differ is =
     omega (arith, is, ap (λ l. place_of l thread) (drop_more order place 0 lt), place-rest (get_or order place 0) thread (drop (place + 1) order) differ)
 
-pub place-end : (order : List ℕ) (place thread : ℕ) → length order ≤ place → place ≤ length order → place + place_of (drop place order) thread ≡ place_of order thread → length order ≡ place_of order thread
+pub place-end : (order : List ℕ) (place thread : ℕ) → length order ≤ place → place ≤ length order
+    → place + place_of (drop place order) thread ≡ place_of order thread → length order ≡ place_of order thread
 place-end order place thread past most is =
     omega (arith, past, most, is, ap (λ l. place_of l thread) (drop_all place order past), place-nil thread)
 
@@ -62,7 +65,8 @@ pub drawn-more : (f : ℕ → ℕ) (items now : List ℕ) (n value : ℕ) → it
 drawn-more f items now n value is long more value_is =
     let one : suc n ≡ n + 1 = omega arith in
     let zero_more : 0 + n ≡ n = omega arith in (
-      more ∙ (λ i. is i ++ value_is i ∷ []) ∙ ap (λ k. map f (range_with_len 0 n) ++ f k ∷ []) (sym zero_more) ∙ sym (mapped-more f 0 n) ∙ ap (λ k. map f (range_with_len 0 k)) one,
+      more ∙ (λ i. is i ++ value_is i ∷ []) ∙ ap (λ k. map f (range_with_len 0 n) ++ f k ∷ []) (sym zero_more) ∙ sym (mapped-more f 0 n)
+          ∙ ap (λ k. map f (range_with_len 0 k)) one,
       omega (arith, long, ap length more, length_push items value),
     )
 
@@ -81,27 +85,41 @@ abbrev pub first_priorities : ℕ → List ℕ → List ℕ
 first_priorities top order = map (λ thread. top - place_of order thread) (range_with_len 0 (length order))
 
 first-at : (top : ℕ) (order : List ℕ) (thread : ℕ) → thread < length order → get_or (first_priorities top order) thread 0 ≡ top - place_of order thread
-first-at top order thread lt = let same : 0 + thread ≡ thread = omega arith in mapped-at (λ t. top - place_of order t) 0 (length order) thread lt ∙ ap (λ t. top - place_of order t) same
+first-at top order thread lt = let same : 0 + thread ≡ thread = omega arith in mapped-at (λ t. top - place_of order t) 0 (length order) thread lt
+    ∙ ap (λ t. top - place_of order t) same
 
 ordered-low : (order : List ℕ) (thread : ℕ) → IsOrder (length order) order → 1 ≤ times thread order → thread < length order
 ordered-low order thread is there = elim (cases_lt thread (length order)) as (λ _. thread < length order)
     [ inl low ↦ low | inr high ↦ absurd (omega (arith, there, is.only thread high)) ]
 
-falling-from : (top : ℕ) (order front back : List ℕ) → IsOrder (length order) order → length order ≤ top → order ≡ front ++ back → IsFalling (first_priorities top order) back
+falling-from : (top : ℕ) (order front back : List ℕ) → IsOrder (length order) order → length order ≤ top → order ≡ front ++ back
+    → IsFalling (first_priorities top order) back
 falling-from top order front [] is le whole = tt
 falling-from top order front (first ∷ rest) is le whole =
-    let counted : (thread : ℕ) → times thread order ≡ times thread front + times thread (first ∷ rest) = λ thread. ap (times thread) whole ∙ times-append thread front (first ∷ rest) in
+    let counted : (thread : ℕ) → times thread order ≡ times thread front + times thread (first ∷ rest) = λ thread. ap (times thread) whole
+    ∙ times-append thread front (first ∷ rest) in
     let here : 1 ≤ times first order = omega (arith, counted first, times-same first first rest refl) in
     let first_low : first < length order = ordered-low order first is here in
     let first_front : times first front ≡ 0 = omega (arith, counted first, times-same first first rest refl, is.once first first_low) in
-    let first_place : place_of order first ≡ length front = ap (λ l. place_of l first) whole ∙ place-past front (first ∷ rest) first first_front ∙ omega (arith, place-first first first rest refl) in (
+    let first_place : place_of order first ≡ length front = ap (λ l. place_of l first) whole ∙ place-past front (first ∷ rest) first first_front
+    ∙ omega (arith, place-first first first rest refl) in (
       (λ other there.
           let other_there : 1 ≤ times other order = omega (arith, counted other, there) in
           let other_low : other < length order = ordered-low order other is other_there in
           let differ : first ≢ other = λ e. omega (arith, counted other, there, times-same other first rest e, is.once other other_low) in
           let other_front : times other front ≡ 0 = omega (arith, counted other, there, is.once other other_low) in
-          let other_place : place_of order other ≡ length front + place_of (first ∷ rest) other = ap (λ l. place_of l other) whole ∙ place-past front (first ∷ rest) other other_front in
-          omega (arith, first_place, other_place, place-rest first other rest differ, first-at top order first first_low, first-at top order other other_low, place-most order other, le)),
+          let other_place : place_of order other ≡ length front + place_of (first ∷ rest) other = ap (λ l. place_of l other) whole
+          ∙ place-past front (first ∷ rest) other other_front in
+          omega (
+            arith,
+            first_place,
+            other_place,
+            place-rest first other rest differ,
+            first-at top order first first_low,
+            first-at top order other other_low,
+            place-most order other,
+            le,
+          )),
       falling-from top order (front ++ first ∷ []) rest is le (whole ∙ sym (append_assoc front (first ∷ []) rest)),
     )
 
@@ -116,8 +134,14 @@ placed-low (first ∷ rest) thread there = elim (cases_eq first thread) as (λ _
 ]
 
 -- none of them is a number of a change point
-pub first-fresh : (depth : ℕ) (order : List ℕ) (i thread : ℕ) → IsOrder (length order) order → 1 ≤ depth → i + 1 < depth → get_or (first_priorities (depth - 1 + length order) order) thread 0 ≢ i + 1
+pub first-fresh : (depth : ℕ) (order : List ℕ) (i thread : ℕ) → IsOrder (length order) order → 1 ≤ depth → i + 1 < depth
+    → get_or (first_priorities (depth - 1 + length order) order) thread 0 ≢ i + 1
 first-fresh depth order i thread is some low = λ same. elim (cases_lt thread (length order)) as (λ _. ⊥) [
   | inl lt ↦ omega (arith, same, low, some, first-at (depth - 1 + length order) order thread lt, placed-low order thread (omega (arith, is.once thread lt)))
-  | inr past ↦ omega (arith, same, get_or_past (first_priorities (depth - 1 + length order) order) thread 0 (omega (arith, past, length-mapped (λ t. depth - 1 + length order - place_of order t) 0 (length order))))
+  | inr past ↦ omega (
+    arith,
+    same,
+    get_or_past (first_priorities (depth - 1 + length order) order) thread 0
+        (omega (arith, past, length-mapped (λ t. depth - 1 + length order - place_of order t) 0 (length order))),
+  )
 ]

@@ -52,7 +52,8 @@ none-passes test (first ∷ rest) node is there = elim (cases_Bool (test first))
 ]
 
 -- what is found is the highest that passes
-found-first : (priorities : List ℕ) (test : ℕ → Bool) (order : List ℕ) (node other : ℕ) → IsFalling priorities order → find test order ≡ Some node → 1 ≤ times other order → test other ≡ true
+found-first : (priorities : List ℕ) (test : ℕ → Bool) (order : List ℕ) (node other : ℕ) → IsFalling priorities order → find test order ≡ Some node
+    → 1 ≤ times other order → test other ≡ true
     → get_or priorities node 0 ≤ get_or priorities other 0 → other ≡ node
 found-first priorities test [] node other falls is there passes high = absurd (cc)
 found-first priorities test (first ∷ rest) node other falls is there passes high = elim (cases_Bool (test first)) as (λ _. other ≡ node) [
@@ -77,7 +78,8 @@ record IsOver (priorities : List ℕ) (thread : ℕ) (threads : List ℕ) (high 
   first : get_or priorities thread 0 ≤ get_or priorities high 0
   others : (other : ℕ) → 1 ≤ times other threads → get_or priorities other 0 ≤ get_or priorities high 0
 
-over-next : (priorities : List ℕ) (thread next : ℕ) (rest : List ℕ) (high : ℕ) → get_or priorities thread 0 ≤ get_or priorities high 0 → get_or priorities next 0 ≤ get_or priorities high 0
+over-next : (priorities : List ℕ) (thread next : ℕ) (rest : List ℕ) (high : ℕ) → get_or priorities thread 0 ≤ get_or priorities high 0
+    → get_or priorities next 0 ≤ get_or priorities high 0
     → ((other : ℕ) → 1 ≤ times other rest → get_or priorities other 0 ≤ get_or priorities high 0) → IsOver priorities thread (next ∷ rest) high
 over-next priorities thread next rest high first second others = record {
   first = first;
@@ -90,25 +92,31 @@ over-next priorities thread next rest high first second others = record {
 higher-over : (priorities : List ℕ) (thread : ℕ) (threads : List ℕ) → IsOver priorities thread threads (higher priorities thread threads)
 unfolding higher
 higher-over priorities thread [] = record { first = omega arith; others = λ other there. absurd (omega (arith, there)) }
-higher-over priorities thread (next ∷ rest) = elim (cases_Bool (ltb (get_or priorities thread 0) (get_or priorities next 0))) as (λ _. IsOver priorities thread (next ∷ rest) (higher priorities thread (next ∷ rest))) [
-  | inl less ↦
-      let lt : get_or priorities thread 0 < get_or priorities next 0 = ltb-true (get_or priorities thread 0) (get_or priorities next 0) less in
-      subst (IsOver priorities thread (next ∷ rest)) (sym (ap (λ (b : Bool). higher priorities (cond b next thread) rest) less))
-      (over-next priorities thread next rest (higher priorities next rest) (omega (arith, lt, (higher-over priorities next rest).first)) (higher-over priorities next rest).first (higher-over priorities next rest).others)
-  | inr more ↦
-      let le : get_or priorities next 0 ≤ get_or priorities thread 0 = ltb-false (get_or priorities thread 0) (get_or priorities next 0) more in
-      subst (IsOver priorities thread (next ∷ rest)) (sym (ap (λ (b : Bool). higher priorities (cond b next thread) rest) more))
-      (over-next priorities thread next rest (higher priorities thread rest) (higher-over priorities thread rest).first (omega (arith, le, (higher-over priorities thread rest).first)) (higher-over priorities thread rest).others)
-]
+higher-over priorities thread (next ∷ rest) =
+    elim (cases_Bool (ltb (get_or priorities thread 0) (get_or priorities next 0))) as (λ _. IsOver priorities thread (next ∷ rest)
+    (higher priorities thread (next ∷ rest))) [
+      | inl less ↦
+          let lt : get_or priorities thread 0 < get_or priorities next 0 = ltb-true (get_or priorities thread 0) (get_or priorities next 0) less in
+          subst (IsOver priorities thread (next ∷ rest)) (sym (ap (λ (b : Bool). higher priorities (cond b next thread) rest) less))
+          (over-next priorities thread next rest (higher priorities next rest) (omega (arith, lt, (higher-over priorities next rest).first))
+          (higher-over priorities next rest).first (higher-over priorities next rest).others)
+      | inr more ↦
+          let le : get_or priorities next 0 ≤ get_or priorities thread 0 = ltb-false (get_or priorities thread 0) (get_or priorities next 0) more in
+          subst (IsOver priorities thread (next ∷ rest)) (sym (ap (λ (b : Bool). higher priorities (cond b next thread) rest) more))
+          (over-next priorities thread next rest (higher priorities thread rest) (higher-over priorities thread rest).first
+          (omega (arith, le, (higher-over priorities thread rest).first)) (higher-over priorities thread rest).others)
+    ]
 
 highest-over : (priorities threads : List ℕ) (other : ℕ) → 1 ≤ times other threads → get_or priorities other 0 ≤ get_or priorities (highest priorities threads) 0
 highest-over priorities [] other there = absurd (omega (arith, there))
-highest-over priorities (thread ∷ threads) other there = elim (cases_eq thread other) as (λ _. get_or priorities other 0 ≤ get_or priorities (higher priorities thread threads) 0) [
-  | inl same ↦ omega (arith, ap (λ n. get_or priorities n 0) same, (higher-over priorities thread threads).first)
-  | inr differ ↦ (higher-over priorities thread threads).others other (omega (arith, there, times-other other thread threads differ))
-]
+highest-over priorities (thread ∷ threads) other there =
+    elim (cases_eq thread other) as (λ _. get_or priorities other 0 ≤ get_or priorities (higher priorities thread threads) 0) [
+      | inl same ↦ omega (arith, ap (λ n. get_or priorities n 0) same, (higher-over priorities thread threads).first)
+      | inr differ ↦ (higher-over priorities thread threads).others other (omega (arith, there, times-other other thread threads differ))
+    ]
 
-more-has : (first : ℕ) (view : List Seen) (place : ℕ) → 1 ≤ times (first + 1 + place) (able_from (first + 1) view) → 1 ≤ times (first + suc place) (able_from (first + 1) view)
+more-has : (first : ℕ) (view : List Seen) (place : ℕ) → 1 ≤ times (first + 1 + place) (able_from (first + 1) view)
+    → 1 ≤ times (first + suc place) (able_from (first + 1) view)
 more-has first view place there =
     let same : first + 1 + place ≡ first + suc place = omega arith in
     subst (λ thread. 1 ≤ times thread (able_from (first + 1) view)) same there
@@ -138,35 +146,41 @@ pub first-highest : (priorities order : List ℕ) (view : List Seen) (node : ℕ
     → find (λ thread. is_able (seen_of view thread)) order ≡ Some node → node ≡ highest priorities (able_threads view)
 first-highest priorities order view node falls each some is =
     let high : ℕ = highest priorities (able_threads view) in
-    let able : IsTrue (is_able (seen_of view (highest priorities (able_threads view)))) = highest-holds (λ thread. IsTrue (is_able (seen_of view thread))) priorities (able_threads view) some (able-place view) in
-    let there : 1 ≤ times (highest priorities (able_threads view)) order = omega (arith, each.once (highest priorities (able_threads view)) (able-listed view (highest priorities (able_threads view)) able)) in
+    let able : IsTrue (is_able (seen_of view (highest priorities (able_threads view)))) =
+    highest-holds (λ thread. IsTrue (is_able (seen_of view thread))) priorities (able_threads view) some (able-place view) in
+    let there : 1 ≤ times (highest priorities (able_threads view)) order =
+    omega (arith, each.once (highest priorities (able_threads view)) (able-listed view (highest priorities (able_threads view)) able)) in
     let node_able : IsTrue (is_able (seen_of view node)) = found-passes (λ thread. is_able (seen_of view thread)) order node is in
     sym (found-first priorities (λ thread. is_able (seen_of view thread)) order node (highest priorities (able_threads view)) falls is there able
     (highest-over priorities (able_threads view) node (able-has view node node_able)))
 
 -- and there is one where some thread can go on
-pub first-some : (order : List ℕ) (view : List Seen) → IsOrder (length view) order → 0 < length (able_threads view) → find (λ thread. is_able (seen_of view thread)) order ≢ None
+pub first-some : (order : List ℕ) (view : List Seen) → IsOrder (length view) order → 0 < length (able_threads view)
+    → find (λ thread. is_able (seen_of view thread)) order ≢ None
 first-some order view each some is =
     let able : IsTrue (is_able (seen_of view (get_or (able_threads view) 0 0))) = able-place view 0 some in
-    let there : 1 ≤ times (get_or (able_threads view) 0 0) order = omega (arith, each.once (get_or (able_threads view) 0 0) (able-listed view (get_or (able_threads view) 0 0) able)) in
+    let there : 1 ≤ times (get_or (able_threads view) 0 0) order =
+    omega (arith, each.once (get_or (able_threads view) 0 0) (able-listed view (get_or (able_threads view) 0 0) able)) in
     false≢true (sym (none-passes (λ thread. is_able (seen_of view thread)) order (get_or (able_threads view) 0 0) is there) ∙ able)
 
 -- ---- a thread that is given another priority
 
 -- no thread but this one has another priority than before
-falling-without : (priorities : List ℕ) (thread priority : ℕ) (order : List ℕ) → IsFalling priorities order → IsFalling (set priorities thread priority) (without thread order)
+falling-without : (priorities : List ℕ) (thread priority : ℕ) (order : List ℕ) → IsFalling priorities order
+    → IsFalling (set priorities thread priority) (without thread order)
 falling-without priorities thread priority [] falls = tt
-falling-without priorities thread priority (first ∷ rest) falls = elim (cases_eq first thread) as (λ _. IsFalling (set priorities thread priority) (without thread (first ∷ rest))) [
-  | inl same ↦ subst (IsFalling (set priorities thread priority)) (sym (without-same thread first rest same)) (falling-without priorities thread priority rest falls.1)
-  | inr differ ↦
-      subst (IsFalling (set priorities thread priority)) (sym (without-other thread first rest differ)) (
-        (λ other there.
-            let apart : other ≢ thread = λ e. omega (arith, there, ap (λ n. times n (without thread rest)) e, times-without_same thread rest) in
-            let less : get_or priorities other 0 < get_or priorities first 0 = falls.0 other (omega (arith, there, times-without_other other thread rest apart)) in
-            omega (arith, less, get_or-set_other priorities thread other priority 0 apart, get_or-set_other priorities thread first priority 0 differ)),
-        falling-without priorities thread priority rest falls.1,
-      )
-]
+falling-without priorities thread priority (first ∷ rest) falls =
+    elim (cases_eq first thread) as (λ _. IsFalling (set priorities thread priority) (without thread (first ∷ rest))) [
+      | inl same ↦ subst (IsFalling (set priorities thread priority)) (sym (without-same thread first rest same)) (falling-without priorities thread priority rest falls.1)
+      | inr differ ↦
+          subst (IsFalling (set priorities thread priority)) (sym (without-other thread first rest differ)) (
+            (λ other there.
+                let apart : other ≢ thread = λ e. omega (arith, there, ap (λ n. times n (without thread rest)) e, times-without_same thread rest) in
+                let less : get_or priorities other 0 < get_or priorities first 0 = falls.0 other (omega (arith, there, times-without_other other thread rest apart)) in
+                omega (arith, less, get_or-set_other priorities thread other priority 0 apart, get_or-set_other priorities thread first priority 0 differ)),
+            falling-without priorities thread priority rest falls.1,
+          )
+    ]
 
 -- what fails is found neither with the thread nor without it
 find-without : (test : ℕ → Bool) (thread : ℕ) (order : List ℕ) → test thread ≡ false → find test (without thread order) ≡ find test order
@@ -183,14 +197,15 @@ find-without test thread (first ∷ rest) fails = elim (cases_eq first thread) a
 
 times-with_before : (thread lower other : ℕ) (xs : List ℕ) → other ≢ thread → times other (with_before thread lower xs) ≡ times other xs
 times-with_before thread lower other [] apart = refl
-times-with_before thread lower other (first ∷ rest) apart = elim (cases_eq first lower) as (λ _. times other (with_before thread lower (first ∷ rest)) ≡ times other (first ∷ rest)) [
-  | inl same ↦
-      ap (times other) (ap (λ (b : Bool). cond b (thread ∷ first ∷ rest) (first ∷ with_before thread lower rest)) (eq-eqb first lower same))
-      ∙ times-other other thread (first ∷ rest) (λ e. apart (sym e))
-  | inr differ ↦
-      ap (times other) (ap (λ (b : Bool). cond b (thread ∷ first ∷ rest) (first ∷ with_before thread lower rest)) (ne_eqb first lower differ))
-      ∙ ap (λ (n : ℕ). cond {A = ℕ} (first == other) 1 0 + n) (times-with_before thread lower other rest apart)
-]
+times-with_before thread lower other (first ∷ rest) apart =
+    elim (cases_eq first lower) as (λ _. times other (with_before thread lower (first ∷ rest)) ≡ times other (first ∷ rest)) [
+      | inl same ↦
+          ap (times other) (ap (λ (b : Bool). cond b (thread ∷ first ∷ rest) (first ∷ with_before thread lower rest)) (eq-eqb first lower same))
+          ∙ times-other other thread (first ∷ rest) (λ e. apart (sym e))
+      | inr differ ↦
+          ap (times other) (ap (λ (b : Bool). cond b (thread ∷ first ∷ rest) (first ∷ with_before thread lower rest)) (ne_eqb first lower differ))
+          ∙ ap (λ (n : ℕ). cond {A = ℕ} (first == other) 1 0 + n) (times-with_before thread lower other rest apart)
+    ]
 
 abbrev below : List ℕ → ℕ → ℕ → Bool
 below priorities priority thread = ltb (get_or priorities thread 0) priority
@@ -206,32 +221,33 @@ falling-before : (priorities : List ℕ) (thread priority lower : ℕ) (xs : Lis
     → ((other : ℕ) → 1 ≤ times other xs → get_or priorities other 0 ≢ priority) → find (below priorities priority) xs ≡ Some lower
     → IsFalling priorities (with_before thread lower xs)
 falling-before priorities thread priority lower [] given falls apart is = absurd (cc)
-falling-before priorities thread priority lower (first ∷ rest) given falls apart is = elim (cases_Bool (below priorities priority first)) as (λ _. IsFalling priorities (with_before thread lower (first ∷ rest))) [
-  | inl passes ↦
-      let here : Some first ≡ Some lower = sym (ap (λ (b : Bool). cond b (Some first) (find (below priorities priority) rest)) passes) ∙ is in
-      let same : first ≡ lower = cc in
-      let less : get_or priorities first 0 < priority = ltb-true (get_or priorities first 0) priority passes in
-      subst (IsFalling priorities) (sym (ap (λ (b : Bool). cond b (thread ∷ first ∷ rest) (first ∷ with_before thread lower rest)) (eq-eqb first lower same))) (
-        (λ other there. elim (cases_eq first other) as (λ _. get_or priorities other 0 < get_or priorities thread 0) [
-          | inl is_first ↦ omega (arith, less, given, ap (λ n. get_or priorities n 0) is_first)
-          | inr differ ↦ omega (arith, less, given, falls.0 other (omega (arith, there, times-other other first rest differ)))
-        ]),
-        falls,
-      )
-  | inr fails ↦
-      let later : find (below priorities priority) rest ≡ Some lower = sym (ap (λ (b : Bool). cond b (Some first) (find (below priorities priority) rest)) fails) ∙ is in
-      let more : priority ≤ get_or priorities first 0 = ltb-false (get_or priorities first 0) priority fails in
-      let ne : get_or priorities first 0 ≢ priority = apart first (omega (arith, times-same first first rest refl)) in
-      let over : priority < get_or priorities first 0 = strictly (get_or priorities first 0) priority more ne in
-      let differ : first ≢ lower = λ e. false≢true (sym fails ∙ ap (below priorities priority) e ∙ found-passes (below priorities priority) rest lower later) in
-      subst (IsFalling priorities) (sym (ap (λ (b : Bool). cond b (thread ∷ first ∷ rest) (first ∷ with_before thread lower rest)) (ne_eqb first lower differ))) (
-        (λ other there. elim (cases_eq other thread) as (λ _. get_or priorities other 0 < get_or priorities first 0) [
-          | inl is_thread ↦ omega (arith, over, given, ap (λ n. get_or priorities n 0) is_thread)
-          | inr not_thread ↦ falls.0 other (omega (arith, there, times-with_before thread lower other rest not_thread))
-        ]),
-        falling-before priorities thread priority lower rest given falls.1 (λ other there. apart other (omega (arith, there))) later,
-      )
-]
+falling-before priorities thread priority lower (first ∷ rest) given falls apart is =
+    elim (cases_Bool (below priorities priority first)) as (λ _. IsFalling priorities (with_before thread lower (first ∷ rest))) [
+      | inl passes ↦
+          let here : Some first ≡ Some lower = sym (ap (λ (b : Bool). cond b (Some first) (find (below priorities priority) rest)) passes) ∙ is in
+          let same : first ≡ lower = cc in
+          let less : get_or priorities first 0 < priority = ltb-true (get_or priorities first 0) priority passes in
+          subst (IsFalling priorities) (sym (ap (λ (b : Bool). cond b (thread ∷ first ∷ rest) (first ∷ with_before thread lower rest)) (eq-eqb first lower same))) (
+            (λ other there. elim (cases_eq first other) as (λ _. get_or priorities other 0 < get_or priorities thread 0) [
+              | inl is_first ↦ omega (arith, less, given, ap (λ n. get_or priorities n 0) is_first)
+              | inr differ ↦ omega (arith, less, given, falls.0 other (omega (arith, there, times-other other first rest differ)))
+            ]),
+            falls,
+          )
+      | inr fails ↦
+          let later : find (below priorities priority) rest ≡ Some lower = sym (ap (λ (b : Bool). cond b (Some first) (find (below priorities priority) rest)) fails) ∙ is in
+          let more : priority ≤ get_or priorities first 0 = ltb-false (get_or priorities first 0) priority fails in
+          let ne : get_or priorities first 0 ≢ priority = apart first (omega (arith, times-same first first rest refl)) in
+          let over : priority < get_or priorities first 0 = strictly (get_or priorities first 0) priority more ne in
+          let differ : first ≢ lower = λ e. false≢true (sym fails ∙ ap (below priorities priority) e ∙ found-passes (below priorities priority) rest lower later) in
+          subst (IsFalling priorities) (sym (ap (λ (b : Bool). cond b (thread ∷ first ∷ rest) (first ∷ with_before thread lower rest)) (ne_eqb first lower differ))) (
+            (λ other there. elim (cases_eq other thread) as (λ _. get_or priorities other 0 < get_or priorities first 0) [
+              | inl is_thread ↦ omega (arith, over, given, ap (λ n. get_or priorities n 0) is_thread)
+              | inr not_thread ↦ falls.0 other (omega (arith, there, times-with_before thread lower other rest not_thread))
+            ]),
+            falling-before priorities thread priority lower rest given falls.1 (λ other there. apart other (omega (arith, there))) later,
+          )
+    ]
 
 -- or at the back
 falling-back : (priorities : List ℕ) (thread priority : ℕ) (xs : List ℕ) → get_or priorities thread 0 ≡ priority → IsFalling priorities xs
@@ -252,7 +268,8 @@ falling-back priorities thread priority (first ∷ rest) given falls apart is =
     )
 
 -- both, from the list before
-module _ (priorities order : List ℕ) (thread priority : ℕ) (within : thread < length priorities) (falls : IsFalling priorities order) (apart : (other : ℕ) → get_or priorities other 0 ≢ priority) where
+module _ (priorities order : List ℕ) (thread priority : ℕ) (within : thread < length priorities) (falls : IsFalling priorities order)
+    (apart : (other : ℕ) → get_or priorities other 0 ≢ priority) where
   abbrev new : List ℕ
   new = set priorities thread priority
 
@@ -267,7 +284,8 @@ module _ (priorities order : List ℕ) (thread priority : ℕ) (within : thread 
   itself : below (set priorities thread priority) priority thread ≡ false
   itself = not-below (get_or (set priorities thread priority) thread 0) priority given
 
-  pub given-before : (lower : ℕ) → find (below (set priorities thread priority) priority) order ≡ Some lower → IsFalling (set priorities thread priority) (with_before thread lower (without thread order))
+  pub given-before : (lower : ℕ) → find (below (set priorities thread priority) priority) order ≡ Some lower
+      → IsFalling (set priorities thread priority) (with_before thread lower (without thread order))
   given-before lower is =
       falling-before (set priorities thread priority) thread priority lower (without thread order) given (falling-without priorities thread priority order falls) others
       (find-without (below (set priorities thread priority) priority) thread order itself ∙ is)
@@ -282,33 +300,40 @@ pub found-in : (test : ℕ → Bool) (order : List ℕ) (node : ℕ) → find te
 found-in test order node is = found-there test order node is
 
 -- the one list after a node went before another
-pub only-before : (lists : List (List ℕ)) (node other : ℕ) → length lists ≡ 1 → list_at (just_before lists node other) 0 ≡ with_before node other (without node (list_at lists 0))
+pub only-before : (lists : List (List ℕ)) (node other : ℕ) → length lists ≡ 1
+    → list_at (just_before lists node other) 0 ≡ with_before node other (without node (list_at lists 0))
 only-before [] node other one = refl
 only-before (first ∷ rest) node other one = refl
 
 -- the list after a thread was given a priority, with the thread before the first of a lower one
-pub ranked-before : (lists after : List (List ℕ)) (priorities now : List ℕ) (thread node priority lower : ℕ) → length lists ≡ 1 → IsFalling priorities (list_at lists 0) → thread < length priorities
+pub ranked-before : (lists after : List (List ℕ)) (priorities now : List ℕ) (thread node priority lower : ℕ) → length lists ≡ 1
+    → IsFalling priorities (list_at lists 0) → thread < length priorities
     → ((other : ℕ) → get_or priorities other 0 ≢ priority) → now ≡ set priorities thread priority → node ≡ thread
     → find (λ t. ltb (get_or now t 0) priority) (list_at lists 0) ≡ Some lower → after ≡ just_before lists node lower → IsFalling now (list_at after 0)
 ranked-before lists after priorities now thread node priority lower one falls within apart set_is node_is found moved =
-    let is : find (λ t. ltb (get_or (set priorities thread priority) t 0) priority) (list_at lists 0) ≡ Some lower = ap (λ p. find (λ t. ltb (get_or p t 0) priority) (list_at lists 0)) (sym set_is) ∙ found in
+    let is : find (λ t. ltb (get_or (set priorities thread priority) t 0) priority) (list_at lists 0) ≡ Some lower =
+    ap (λ p. find (λ t. ltb (get_or p t 0) priority) (list_at lists 0)) (sym set_is) ∙ found in
     let list : list_at after 0 ≡ with_before thread lower (without thread (list_at lists 0)) =
     ap (λ ls. list_at ls 0) moved ∙ only-before lists node lower one ∙ ap (λ n. with_before n lower (without n (list_at lists 0))) node_is in
     subst (λ p. IsFalling p (list_at after 0)) (sym set_is)
     (subst (IsFalling (set priorities thread priority)) (sym list) (given-before priorities (list_at lists 0) thread priority within falls apart lower is))
 
-pub ranked-back : (lists after : List (List ℕ)) (priorities now : List ℕ) (thread node priority : ℕ) → length lists ≡ 1 → IsFalling priorities (list_at lists 0) → thread < length priorities
+pub ranked-back : (lists after : List (List ℕ)) (priorities now : List ℕ) (thread node priority : ℕ) → length lists ≡ 1
+    → IsFalling priorities (list_at lists 0) → thread < length priorities
     → ((other : ℕ) → get_or priorities other 0 ≢ priority) → now ≡ set priorities thread priority → node ≡ thread
     → find (λ t. ltb (get_or now t 0) priority) (list_at lists 0) ≡ None → after ≡ at_back lists 0 node → IsFalling now (list_at after 0)
 ranked-back lists after priorities now thread node priority one falls within apart set_is node_is found moved =
-    let is : find (λ t. ltb (get_or (set priorities thread priority) t 0) priority) (list_at lists 0) ≡ None = ap (λ p. find (λ t. ltb (get_or p t 0) priority) (list_at lists 0)) (sym set_is) ∙ found in
+    let is : find (λ t. ltb (get_or (set priorities thread priority) t 0) priority) (list_at lists 0) ≡ None =
+    ap (λ p. find (λ t. ltb (get_or p t 0) priority) (list_at lists 0)) (sym set_is) ∙ found in
     let list : list_at after 0 ≡ without thread (list_at lists 0) ++ thread ∷ [] =
     ap (λ ls. list_at ls 0) moved ∙ at_back-same lists 0 node (omega (arith, one)) ∙ ap (λ n. without n (list_at lists 0) ++ n ∷ []) node_is in
     subst (λ p. IsFalling p (list_at after 0)) (sym set_is)
     (subst (IsFalling (set priorities thread priority)) (sym list) (given-back priorities (list_at lists 0) thread priority within falls apart is))
 
-pub lower-other : (lists : List (List ℕ)) (priorities now : List ℕ) (thread node priority lower : ℕ) → thread < length priorities → now ≡ set priorities thread priority → node ≡ thread
+pub lower-other : (lists : List (List ℕ)) (priorities now : List ℕ) (thread node priority lower : ℕ) → thread < length priorities
+    → now ≡ set priorities thread priority → node ≡ thread
     → find (λ t. ltb (get_or now t 0) priority) (list_at lists 0) ≡ Some lower → node ≢ lower
 lower-other lists priorities now thread node priority lower within set_is node_is found = λ same.
-    let level : get_or now lower 0 ≡ priority = ap (λ p. get_or p lower 0) set_is ∙ ap (λ n. get_or (set priorities thread priority) n 0) (sym same ∙ node_is) ∙ get_or-set_same priorities thread priority 0 within in
+    let level : get_or now lower 0 ≡ priority = ap (λ p. get_or p lower 0) set_is
+    ∙ ap (λ n. get_or (set priorities thread priority) n 0) (sym same ∙ node_is) ∙ get_or-set_same priorities thread priority 0 within in
     omega (arith, level, ltb-true (get_or now lower 0) priority (found-passes (λ t. ltb (get_or now t 0) priority) (list_at lists 0) lower found))

@@ -36,7 +36,8 @@ at-there [] index lt = absurd (omega arith)
 at-there (first ∷ rest) zero lt = omega (arith, times-same first first rest refl)
 at-there (first ∷ rest) (suc index) lt = omega (arith, at-there rest index (omega arith))
 
-order-low : (before : List (List ℕ)) (order : List ℕ) (index : ℕ) → IsOrder (node_count before) order → index < length order → {now : ℕ} → now ≡ node_count before → get_or order index 0 < now
+order-low : (before : List (List ℕ)) (order : List ℕ) (index : ℕ) → IsOrder (node_count before) order → index < length order → {now : ℕ}
+    → now ≡ node_count before → get_or order index 0 < now
 order-low before order index is lt {now} same = elim (cases_lt (get_or order index 0) (node_count before)) as (λ _. get_or order index 0 < now)
     [ inl low ↦ omega (arith, low, same) | inr high ↦ absurd (omega (arith, is.only (get_or order index 0) high, at-there order index lt)) ]
 
@@ -53,7 +54,8 @@ front-none order index lt once =
     omega (arith, once, front, ap (times node) more, times-append node (take index order) (node ∷ []), times-same node node [] refl)
 
 pub ordered-first : (lists : List (List ℕ)) (order : List ℕ) → HasEachOnce lists → IsOrderedTo lists lists order 0
-ordered-first lists order each_once = record { others = list_at lists 0; list = sym (append-none (list_at lists 0)); nodes = record { lists = refl; nodes = refl; each_once = each_once } }
+ordered-first lists order each_once =
+    record { others = list_at lists 0; list = sym (append-none (list_at lists 0)); nodes = record { lists = refl; nodes = refl; each_once = each_once } }
 
 module _ (before now : List (List ℕ)) (order : List ℕ) (index : ℕ) (one : length before ≡ 1) (is : IsOrder (node_count before) order) (lt : index < length order) where
   abbrev node : ℕ
@@ -62,7 +64,8 @@ module _ (before now : List (List ℕ)) (order : List ℕ) (index : ℕ) (one : 
   pub ordered-node : IsOrderedTo before now order index → get_or order index 0 < node_count now
   ordered-node to = order-low before order index is lt to.nodes.nodes
 
-  pub ordered-next : (new : List (List ℕ)) → IsOrderedTo before now order index → new ≡ at_back now 0 (get_or order index 0) → HasSameNodes now new → IsOrderedTo before new order (index + 1)
+  pub ordered-next : (new : List (List ℕ)) → IsOrderedTo before now order index → new ≡ at_back now 0 (get_or order index 0) → HasSameNodes now new
+      → IsOrderedTo before new order (index + 1)
   ordered-next new to moved same =
       let none : times (get_or order index 0) (take index order) ≡ 0 = front-none order index lt (order-once before order is (get_or order index 0)) in
       let parts = without-append (get_or order index 0) to.others (take index order) in
@@ -79,7 +82,8 @@ module _ (before now : List (List ℕ)) (order : List ℕ) (index : ℕ) (one : 
         nodes = record { lists = same.lists ∙ to.nodes.lists; nodes = same.nodes ∙ to.nodes.nodes; each_once = same.each_once };
       }
 
-pub ordered-all : (before now : List (List ℕ)) (order : List ℕ) (index : ℕ) → length before ≡ 1 → IsOrder (node_count before) order → length order ≤ index → IsOrderedTo before now order index
+pub ordered-all : (before now : List (List ℕ)) (order : List ℕ) (index : ℕ) → length before ≡ 1 → IsOrder (node_count before) order → length order ≤ index
+    → IsOrderedTo before now order index
     → list_at now 0 ≡ order
 ordered-all before now order index one is past to =
     let all : take index order ≡ order = take_all index order past in

@@ -34,7 +34,8 @@ prepended-none (Err fault) = refl
 named-first : (left order : List ℕ) (draw : ℕ) (r : Result (List ℕ) DrawFault)
     → prepended order (order_found left (with_first (Ok draw) r)) ≡ prepended (order ++ pick left draw ∷ []) (order_found (less_one left (pick left draw)) r)
 named-first left order draw (Ok draws) =
-    ap (λ l. Ok (order ++ l)) (named_order-cons left draw draws) ∙ ap Ok (sym (append_assoc order (pick left draw ∷ []) (named_order (less_one left (pick left draw)) draws)))
+    ap (λ l. Ok (order ++ l)) (named_order-cons left draw draws)
+    ∙ ap Ok (sym (append_assoc order (pick left draw ∷ []) (named_order (less_one left (pick left draw)) draws)))
 named-first left order draw (Err fault) = refl
 
 found-err : (left : List ℕ) (r : Result (List ℕ) DrawFault) (fault : DrawFault) → order_found left r ≡ Err fault → r ≡ Err fault
@@ -72,7 +73,8 @@ replicate-more zero events some = absurd (omega (arith, some))
 replicate-more (suc n) events some = let same : n ≡ suc n - 1 = omega arith in ap (λ k. events ∷ replicate k events) same
 
 module _ {S : Type 0} (draws : Ghosts S) where
-  answers-cons : (source : S) (bound : ℕ) (bounds : List ℕ) → answers draws source (bound ∷ bounds) ≡ with_first (draws.answer source bound) (answers draws (draws.after_answer source bound) bounds)
+  answers-cons : (source : S) (bound : ℕ) (bounds : List ℕ)
+      → answers draws source (bound ∷ bounds) ≡ with_first (draws.answer source bound) (answers draws (draws.after_answer source bound) bounds)
   unfolding answers
   answers-cons source bound bounds = refl
 
@@ -80,7 +82,9 @@ module _ {S : Type 0} (draws : Ghosts S) where
   unfolding answers
   answers-nil source = refl
 
-  after-cons : (source : S) (bound : ℕ) (bounds : List ℕ) → after_bounds draws source (bound ∷ bounds) ≡ unless_refused (draws.answer source bound) (draws.after_answer source bound) (after_bounds draws (draws.after_answer source bound) bounds)
+  after-cons : (source : S) (bound : ℕ) (bounds : List ℕ)
+      → after_bounds draws source (bound ∷ bounds) ≡ unless_refused (draws.answer source bound) (draws.after_answer source bound)
+      (after_bounds draws (draws.after_answer source bound) bounds)
   unfolding after_bounds
   after-cons source bound bounds = refl
 
@@ -99,14 +103,16 @@ module _ {S : Type 0} (draws : Ghosts S) where
   ordered-start before threads left is =
       let all : sum left ≡ threads = ap sum is ∙ sum-ones threads in
       record {
-        found = (λ i. prepended [] (order_found (is i) (answers draws before (falling (all i))))) ∙ prepended-none (order_found (replicate threads 1) (answers draws before (falling threads)));
+        found = (λ i. prepended [] (order_found (is i) (answers draws before (falling (all i)))))
+            ∙ prepended-none (order_found (replicate threads 1) (answers draws before (falling threads)));
         source = ap (λ n. after_bounds draws before (falling n)) all;
         counted = λ thread. omega (arith, ap (λ l. get_or l thread 0) is);
         room = omega (arith, all);
       }
 
   pub ordered-more : (before now next : S) (threads draw thread number : ℕ) (left order after more : List ℕ) → IsOrderedSo before now threads left order → 0 < sum left
-      → draws.answer now (sum left) ≡ Ok draw → draw < sum left → next ≡ draws.after_answer now (sum left) → thread ≡ pick left draw → number ≡ thread → after ≡ less_one left thread → more ≡ order ++ number ∷ []
+      → draws.answer now (sum left) ≡ Ok draw → draw < sum left → next ≡ draws.after_answer now (sum left) → thread ≡ pick left draw → number ≡ thread
+      → after ≡ less_one left thread → more ≡ order ++ number ∷ []
       → IsOrderedSo before next threads after more
   ordered-more before now next threads draw thread number left order after more to some answered low next_is thread_is number_is after_is more_is =
       let at = placed left draw low in
@@ -116,7 +122,8 @@ module _ {S : Type 0} (draws : Ghosts S) where
       let total : sum after + 1 ≡ sum left = ap (λ l. sum l + 1) after_pick ∙ sum-less_one left (pick left draw) there in
       let bounds : falling (sum left) ≡ sum left ∷ falling (sum after) = falling-suc (sum left) (sum after) (omega (arith, total)) in
       let whole : answers draws now (falling (sum left)) ≡ with_first (Ok draw) (answers draws next (falling (sum after))) =
-      ap (answers draws now) bounds ∙ answers-cons now (sum left) (falling (sum after)) ∙ (λ i. with_first (answered i) (answers draws (sym next_is i) (falling (sum after)))) in
+      ap (answers draws now) bounds ∙ answers-cons now (sum left) (falling (sum after))
+      ∙ (λ i. with_first (answered i) (answers draws (sym next_is i) (falling (sum after)))) in
       record {
         found =
             (λ i. prepended (more_pick i) (order_found (after_pick i) (answers draws next (falling (sum after)))))
@@ -124,40 +131,55 @@ module _ {S : Type 0} (draws : Ghosts S) where
             ∙ ap (λ r. prepended order (order_found left r)) (sym whole)
             ∙ to.found;
         source =
-            sym (ap (after_bounds draws now) bounds ∙ after-cons now (sum left) (falling (sum after)) ∙ (λ i. unless_refused (answered i) (sym next_is i) (after_bounds draws (sym next_is i) (falling (sum after)))))
+            sym (ap (after_bounds draws now) bounds ∙ after-cons now (sum left) (falling (sum after))
+            ∙ (λ i. unless_refused (answered i) (sym next_is i) (after_bounds draws (sym next_is i) (falling (sum after)))))
             ∙ to.source;
-        counted = λ other. rw (after_pick, more_pick) (elim (cases_eq (pick left draw) other) as (λ _. times other (order ++ pick left draw ∷ []) + get_or (less_one left (pick left draw)) other 0 ≡ get_or (replicate threads 1) other 0) [
-          | inl same ↦ omega (
-            arith,
-            to.counted other,
-            times-append other order (pick left draw ∷ []),
-            times-same other (pick left draw) [] same,
-            less_one-same left (pick left draw) there,
-            ap (λ n. get_or left n 0) same,
-            ap (λ n. get_or (less_one left (pick left draw)) n 0) same,
-          )
-          | inr differ ↦ omega (arith, to.counted other, times-append other order (pick left draw ∷ []), times-other other (pick left draw) [] differ, less_one-other left (pick left draw) other differ)
-        ]);
+        counted = λ other. rw (after_pick, more_pick)
+            (elim (cases_eq (pick left draw) other) as (λ _. times other (order ++ pick left draw ∷ []) + get_or
+            (less_one left (pick left draw)) other 0 ≡ get_or (replicate threads 1) other 0) [
+              | inl same ↦ omega (
+                arith,
+                to.counted other,
+                times-append other order (pick left draw ∷ []),
+                times-same other (pick left draw) [] same,
+                less_one-same left (pick left draw) there,
+                ap (λ n. get_or left n 0) same,
+                ap (λ n. get_or (less_one left (pick left draw)) n 0) same,
+              )
+              | inr differ ↦ omega (
+                arith,
+                to.counted other,
+                times-append other order (pick left draw ∷ []),
+                times-other other
+                    (pick left draw) [] differ,
+                less_one-other left (pick left draw) other differ,
+              )
+            ]);
         room = omega (arith, to.room, total, ap length more_is, length_push order number);
       }
 
-  pub order-refused : (before now next : S) (threads : ℕ) (left order : List ℕ) (fault : DrawFault) → IsOrderedSo before now threads left order → 0 < sum left → draws.answer now (sum left) ≡ Err fault
+  pub order-refused : (before now next : S) (threads : ℕ) (left order : List ℕ) (fault : DrawFault) → IsOrderedSo before now threads left order
+      → 0 < sum left → draws.answer now (sum left) ≡ Err fault
       → next ≡ draws.after_answer now (sum left) → (answers draws before (falling threads) ≡ Err fault) × (next ≡ after_bounds draws before (falling threads))
   order-refused before now next threads left order fault to some refused next_is =
       let bounds : falling (sum left) ≡ sum left ∷ falling (sum left - 1) = falling-suc (sum left) (sum left - 1) (omega (arith, some)) in
       let whole : answers draws now (falling (sum left)) ≡ Err fault =
-      ap (answers draws now) bounds ∙ answers-cons now (sum left) (falling (sum left - 1)) ∙ ap (λ r. with_first r (answers draws (draws.after_answer now (sum left)) (falling (sum left - 1)))) refused in (
+      ap (answers draws now) bounds ∙ answers-cons now (sum left) (falling (sum left - 1))
+      ∙ ap (λ r. with_first r (answers draws (draws.after_answer now (sum left)) (falling (sum left - 1)))) refused in (
         found-err (replicate threads 1) (answers draws before (falling threads)) fault (sym to.found ∙ ap (λ r. prepended order (order_found left r)) whole),
         next_is
-            ∙ sym (ap (after_bounds draws now) bounds ∙ after-cons now (sum left) (falling (sum left - 1)) ∙ ap (λ r. unless_refused r (draws.after_answer now (sum left)) (after_bounds draws (draws.after_answer now (sum left)) (falling (sum left - 1)))) refused)
+            ∙ sym (ap (after_bounds draws now) bounds ∙ after-cons now (sum left) (falling (sum left - 1))
+            ∙ ap (λ r. unless_refused r (draws.after_answer now (sum left)) (after_bounds draws (draws.after_answer now (sum left)) (falling (sum left - 1)))) refused)
             ∙ to.source,
       )
 
   pub order-all : (before now : S) (threads : ℕ) (left order : List ℕ) → IsOrderedSo before now threads left order → sum left ≡ 0
-      → (order_found (replicate threads 1) (answers draws before (falling threads)) ≡ Ok order) × IsOrder threads order × (now ≡ after_bounds draws before (falling threads))
+      → (order_found (replicate threads 1) (answers draws before (falling threads)) ≡ Ok order) × IsOrder threads order ×
+      (now ≡ after_bounds draws before (falling threads))
   order-all before now threads left order to none =
       let bounds : falling (sum left) ≡ [] = falling-zero (sum left) none in (
-        sym to.found ∙ ap (λ r. prepended order (order_found left r)) (ap (answers draws now) bounds ∙ answers-nil now) ∙ ap (λ l. Ok (order ++ l)) (named_order-nil left) ∙ ap Ok (append-nil order),
+        sym to.found ∙ ap (λ r. prepended order (order_found left r)) (ap (answers draws now) bounds ∙ answers-nil now)
+            ∙ ap (λ l. Ok (order ++ l)) (named_order-nil left) ∙ ap Ok (append-nil order),
         record {
           long = omega (arith, to.room, none);
           once = λ thread low. omega (arith, to.counted thread, none-left left thread none, ones-at threads thread low);
@@ -183,31 +205,38 @@ module _ {S : Type 0} (draws : Ghosts S) where
     point_is = omega arith;
   }
 
-  pub points-more : (before now next : S) (events many draw point : ℕ) (points more : List ℕ) → ArePointsSo before now events many points point → point < many + 1 → draws.answer now events ≡ Ok draw
+  pub points-more : (before now next : S) (events many draw point : ℕ) (points more : List ℕ) → ArePointsSo before now events many points point
+      → point < many + 1 → draws.answer now events ≡ Ok draw
       → next ≡ draws.after_answer now events → more ≡ points ++ draw ∷ [] → ArePointsSo before next events many more (point + 1)
   points-more before now next events many draw point points more to lt answered next_is more_is =
       let bounds : replicate to.left events ≡ events ∷ replicate (to.left - 1) events = replicate-more to.left events (omega (arith, to.many_is, to.point_is, lt)) in
       let whole : answers draws now (replicate to.left events) ≡ with_first (Ok draw) (answers draws next (replicate (to.left - 1) events)) =
-      ap (answers draws now) bounds ∙ answers-cons now events (replicate (to.left - 1) events) ∙ (λ i. with_first (answered i) (answers draws (sym next_is i) (replicate (to.left - 1) events))) in
+      ap (answers draws now) bounds ∙ answers-cons now events (replicate (to.left - 1) events)
+      ∙ (λ i. with_first (answered i) (answers draws (sym next_is i) (replicate (to.left - 1) events))) in
       record {
         left = to.left - 1;
-        found = ap (λ l. prepended l (answers draws next (replicate (to.left - 1) events))) more_is ∙ sym (point-first points draw (answers draws next (replicate (to.left - 1) events))) ∙ ap (prepended points) (sym whole) ∙ to.found;
+        found = ap (λ l. prepended l (answers draws next (replicate (to.left - 1) events))) more_is
+            ∙ sym (point-first points draw (answers draws next (replicate (to.left - 1) events))) ∙ ap (prepended points) (sym whole) ∙ to.found;
         source =
-            sym (ap (after_bounds draws now) bounds ∙ after-cons now events (replicate (to.left - 1) events) ∙ (λ i. unless_refused (answered i) (sym next_is i) (after_bounds draws (sym next_is i) (replicate (to.left - 1) events))))
+            sym (ap (after_bounds draws now) bounds ∙ after-cons now events (replicate (to.left - 1) events)
+            ∙ (λ i. unless_refused (answered i) (sym next_is i) (after_bounds draws (sym next_is i) (replicate (to.left - 1) events))))
             ∙ to.source;
         many_is = omega (arith, to.many_is, to.point_is, lt, ap length more_is, length_push points draw);
         point_is = omega (arith, to.point_is, ap length more_is, length_push points draw);
       }
 
-  pub points-refused : (before now next : S) (events many point : ℕ) (points : List ℕ) (fault : DrawFault) → ArePointsSo before now events many points point → point < many + 1 → draws.answer now events ≡ Err fault
+  pub points-refused : (before now next : S) (events many point : ℕ) (points : List ℕ) (fault : DrawFault) → ArePointsSo before now events many points point
+      → point < many + 1 → draws.answer now events ≡ Err fault
       → next ≡ draws.after_answer now events → (answers draws before (replicate many events) ≡ Err fault) × (next ≡ after_bounds draws before (replicate many events))
   points-refused before now next events many point points fault to lt refused next_is =
       let bounds : replicate to.left events ≡ events ∷ replicate (to.left - 1) events = replicate-more to.left events (omega (arith, to.many_is, to.point_is, lt)) in
       let whole : answers draws now (replicate to.left events) ≡ Err fault =
-      ap (answers draws now) bounds ∙ answers-cons now events (replicate (to.left - 1) events) ∙ ap (λ r. with_first r (answers draws (draws.after_answer now events) (replicate (to.left - 1) events))) refused in (
+      ap (answers draws now) bounds ∙ answers-cons now events (replicate (to.left - 1) events)
+      ∙ ap (λ r. with_first r (answers draws (draws.after_answer now events) (replicate (to.left - 1) events))) refused in (
         sym to.found ∙ ap (prepended points) whole,
         next_is
-            ∙ sym (ap (after_bounds draws now) bounds ∙ after-cons now events (replicate (to.left - 1) events) ∙ ap (λ r. unless_refused r (draws.after_answer now events) (after_bounds draws (draws.after_answer now events) (replicate (to.left - 1) events))) refused)
+            ∙ sym (ap (after_bounds draws now) bounds ∙ after-cons now events (replicate (to.left - 1) events)
+            ∙ ap (λ r. unless_refused r (draws.after_answer now events) (after_bounds draws (draws.after_answer now events) (replicate (to.left - 1) events))) refused)
             ∙ to.source,
       )
 
@@ -250,7 +279,8 @@ answers-joined draws source [] more =
 answers-joined draws source (bound ∷ bounds) more =
     answers-cons draws source bound (bounds ++ more)
     ∙ ap (with_first (draws.answer source bound)) (answers-joined draws (draws.after_answer source bound) bounds more)
-    ∙ joined-after (draws.answer source bound) (answers draws (draws.after_answer source bound) bounds) (draws.after_answer source bound) (after_bounds draws (draws.after_answer source bound) bounds) (λ s. answers draws s more)
+    ∙ joined-after (draws.answer source bound) (answers draws (draws.after_answer source bound) bounds) (draws.after_answer source bound)
+    (after_bounds draws (draws.after_answer source bound) bounds) (λ s. answers draws s more)
     ∙ (λ i. joined (sym (answers-cons draws source bound bounds) i) (answers draws (sym (after-cons draws source bound bounds) i) more))
 
 length-named : (left draws : List ℕ) → length (named_order left draws) ≡ length draws
@@ -269,7 +299,8 @@ drop-front [] back (suc n) is = absurd (omega (arith, is))
 drop-front (x ∷ xs) back zero is = absurd (omega (arith, is))
 drop-front (x ∷ xs) back (suc n) is = drop-front xs back n (omega (arith, is))
 
-both-found : (threads : ℕ) (first second : Result (List ℕ) DrawFault) (order changes : List ℕ) → order_found (replicate threads 1) first ≡ Ok order → length order ≡ threads → second ≡ Ok changes
+both-found : (threads : ℕ) (first second : Result (List ℕ) DrawFault) (order changes : List ℕ) → order_found (replicate threads 1) first ≡ Ok order
+    → length order ≡ threads → second ≡ Ok changes
     → draws_found threads (joined first second) ≡ Ok (order, changes)
 unfolding joined
 both-found threads (Err fault) second order changes named long is = absurd (cc)
@@ -280,11 +311,14 @@ both-found threads (Ok draws) second order changes named long is =
     ∙ (λ i. Ok (named_order (replicate threads 1) (take-front draws changes threads short i), drop-front draws changes threads short i))
     ∙ ap (λ l. Ok (l, changes)) same
 
-pub draws-both : {S : Type 0} (draws : Ghosts S) (source next : S) (threads : ℕ) (more order changes : List ℕ) → order_found (replicate threads 1) (answers draws source (falling threads)) ≡ Ok order → length order ≡ threads
-    → next ≡ after_bounds draws source (falling threads) → answers draws next more ≡ Ok changes → draws_found threads (answers draws source (falling threads ++ more)) ≡ Ok (order, changes)
+pub draws-both : {S : Type 0} (draws : Ghosts S) (source next : S) (threads : ℕ) (more order changes : List ℕ)
+    → order_found (replicate threads 1) (answers draws source (falling threads)) ≡ Ok order → length order ≡ threads
+    → next ≡ after_bounds draws source (falling threads) → answers draws next more ≡ Ok changes
+    → draws_found threads (answers draws source (falling threads ++ more)) ≡ Ok (order, changes)
 draws-both draws source next threads more order changes named long next_is found =
     ap (draws_found threads) (answers-joined draws source (falling threads) more)
-    ∙ both-found threads (answers draws source (falling threads)) (answers draws (after_bounds draws source (falling threads)) more) order changes named long (ap (λ s. answers draws s more) (sym next_is) ∙ found)
+    ∙ both-found threads (answers draws source (falling threads)) (answers draws (after_bounds draws source (falling threads)) more) order changes named long
+    (ap (λ s. answers draws s more) (sym next_is) ∙ found)
 
 -- a draw's thread has a count
 pub some-there : (left : List ℕ) (draw : ℕ) → draw < sum left → 0 < get_or left (pick left draw) 0
@@ -301,22 +335,27 @@ unfolding joined
 joined-second (Ok other) second front fault is refused = ap (prepended other) refused
 joined-second (Err other) second front fault is refused = absurd (cc)
 
-pub first-refused : {S : Type 0} (draws : Ghosts S) (source : S) (bounds more : List ℕ) (fault : DrawFault) → answers draws source bounds ≡ Err fault → answers draws source (bounds ++ more) ≡ Err fault
+pub first-refused : {S : Type 0} (draws : Ghosts S) (source : S) (bounds more : List ℕ) (fault : DrawFault) → answers draws source bounds ≡ Err fault
+    → answers draws source (bounds ++ more) ≡ Err fault
 first-refused draws source bounds more fault is =
     answers-joined draws source bounds more ∙ joined-first (answers draws source bounds) (answers draws (after_bounds draws source bounds) more) fault is
 
-refused-same : {S : Type 0} (first : Result ℕ DrawFault) (rest : Result (List ℕ) DrawFault) (fault : DrawFault) (here one other : S) → with_first first rest ≡ Err fault → (rest ≡ Err fault → one ≡ other)
+refused-same : {S : Type 0} (first : Result ℕ DrawFault) (rest : Result (List ℕ) DrawFault) (fault : DrawFault) (here one other : S)
+    → with_first first rest ≡ Err fault → (rest ≡ Err fault → one ≡ other)
     → unless_refused first here one ≡ unless_refused first here other
 refused-same (Err refusal) rest fault here one other is same = refl
 refused-same (Ok draw) (Err refusal) fault here one other is same = same is
 refused-same (Ok draw) (Ok draws) fault here one other is same = absurd (cc)
 
-pub after-refused : {S : Type 0} (draws : Ghosts S) (source : S) (bounds more : List ℕ) (fault : DrawFault) → answers draws source bounds ≡ Err fault → after_bounds draws source (bounds ++ more) ≡ after_bounds draws source bounds
+pub after-refused : {S : Type 0} (draws : Ghosts S) (source : S) (bounds more : List ℕ) (fault : DrawFault) → answers draws source bounds ≡ Err fault
+    → after_bounds draws source (bounds ++ more) ≡ after_bounds draws source bounds
 after-refused draws source [] more fault is = let none : Ok [] ≡ Err fault = sym (answers-nil draws source) ∙ is in absurd (cc)
 after-refused draws source (bound ∷ bounds) more fault is =
     after-cons draws source bound (bounds ++ more)
-    ∙ refused-same (draws.answer source bound) (answers draws (draws.after_answer source bound) bounds) fault (draws.after_answer source bound) (after_bounds draws (draws.after_answer source bound) (bounds ++ more))
-    (after_bounds draws (draws.after_answer source bound) bounds) (sym (answers-cons draws source bound bounds) ∙ is) (λ rest. after-refused draws (draws.after_answer source bound) bounds more fault rest)
+    ∙ refused-same (draws.answer source bound) (answers draws (draws.after_answer source bound) bounds) fault (draws.after_answer source bound)
+    (after_bounds draws (draws.after_answer source bound) (bounds ++ more))
+    (after_bounds draws (draws.after_answer source bound) bounds) (sym (answers-cons draws source bound bounds) ∙ is)
+    (λ rest. after-refused draws (draws.after_answer source bound) bounds more fault rest)
     ∙ sym (after-cons draws source bound bounds)
 
 record HasAnswers (r : Result (List ℕ) DrawFault) : Type 0 where
@@ -328,14 +367,17 @@ named-answers left (Ok draws) order is = record { draws = draws; is = refl }
 named-answers left (Err fault) order is = absurd (cc)
 
 -- after an order was drawn the change points are drawn from what is left of the source
-pub second-refused : {S : Type 0} (draws : Ghosts S) (source next : S) (threads : ℕ) (more order : List ℕ) (fault : DrawFault) → order_found (replicate threads 1) (answers draws source (falling threads)) ≡ Ok order
+pub second-refused : {S : Type 0} (draws : Ghosts S) (source next : S) (threads : ℕ) (more order : List ℕ) (fault : DrawFault)
+    → order_found (replicate threads 1) (answers draws source (falling threads)) ≡ Ok order
     → next ≡ after_bounds draws source (falling threads) → answers draws next more ≡ Err fault → answers draws source (falling threads ++ more) ≡ Err fault
 second-refused draws source next threads more order fault named next_is refused =
     let found = named-answers (replicate threads 1) (answers draws source (falling threads)) order named in
     answers-joined draws source (falling threads) more
-    ∙ joined-second (answers draws source (falling threads)) (answers draws (after_bounds draws source (falling threads)) more) found.draws fault found.is (ap (λ s. answers draws s more) (sym next_is) ∙ refused)
+    ∙ joined-second (answers draws source (falling threads)) (answers draws (after_bounds draws source (falling threads)) more) found.draws fault found.is
+    (ap (λ s. answers draws s more) (sym next_is) ∙ refused)
 
-pub after-both : {S : Type 0} (draws : Ghosts S) (source next last : S) (threads : ℕ) (more order : List ℕ) → order_found (replicate threads 1) (answers draws source (falling threads)) ≡ Ok order
+pub after-both : {S : Type 0} (draws : Ghosts S) (source next last : S) (threads : ℕ) (more order : List ℕ)
+    → order_found (replicate threads 1) (answers draws source (falling threads)) ≡ Ok order
     → next ≡ after_bounds draws source (falling threads) → last ≡ after_bounds draws next more → last ≡ after_bounds draws source (falling threads ++ more)
 after-both draws source next last threads more order named next_is last_is =
     let found = named-answers (replicate threads 1) (answers draws source (falling threads)) order named in
@@ -348,17 +390,25 @@ later-asks depth step counts later = ap (λ (b : Bool). cond b (pct_bounds depth
 pub first-asks : (depth step : ℕ) (counts : List ℕ) → step ≡ 0 → pct_asked depth step counts ≡ pct_bounds depth counts
 first-asks depth step counts first = ap (λ (b : Bool). cond b (pct_bounds depth counts) []) (eq-eqb step 0 first)
 
-pub later-found : {S : Type 0} (draws : Ghosts S) (source : S) (depth step : ℕ) (counts : List ℕ) (memory : Memory) → 0 < step → found_by depth step counts memory (answers draws source (pct_asked depth step counts)) ≡ Ok memory
+pub later-found : {S : Type 0} (draws : Ghosts S) (source : S) (depth step : ℕ) (counts : List ℕ) (memory : Memory) → 0 < step
+    → found_by depth step counts memory (answers draws source (pct_asked depth step counts)) ≡ Ok memory
 later-found draws source depth step counts memory later =
     ap (found_by depth step counts memory) (ap (answers draws source) (later-asks depth step counts later) ∙ answers-nil draws source)
     ∙ ap (λ (b : Bool). Ok (cond b (first_memory depth counts []) memory)) (ne_eqb step 0 (λ e. omega (arith, e, later)))
 
-pub first-found : (depth step : ℕ) (counts : List ℕ) (memory : Memory) (after : Ranked) (order changes : List ℕ) (r : Result (List ℕ) DrawFault) → draws_found (length counts) r ≡ Ok (order, changes) → step ≡ 0 → length order ≡ length counts
-    → after.priorities ≡ map (λ thread. depth - 1 + length order - place_of order thread) (range_with_len 0 (length order)) → after.changes ≡ changes → found_by depth step counts memory r ≡ Ok (memory_of after)
+pub first-found : (depth step : ℕ) (counts : List ℕ) (memory : Memory) (after : Ranked) (order changes : List ℕ) (r : Result (List ℕ) DrawFault)
+    → draws_found (length counts) r ≡ Ok (order, changes) → step ≡ 0 → length order ≡ length counts
+    → after.priorities ≡ map (λ thread. depth - 1 + length order - place_of order thread) (range_with_len 0 (length order)) → after.changes ≡ changes
+    → found_by depth step counts memory r ≡ Ok (memory_of after)
 unfolding first_memory
 first-found depth step counts memory after order changes (Err fault) found first long priorities points = absurd (cc)
 first-found depth step counts memory after order changes (Ok draws) found first long priorities points =
     let both : ◌≡◌ {A = List ℕ × List ℕ} (named_order (replicate (length counts) 1) (take (length counts) draws), drop (length counts) draws) (order, changes) = cc in
     ap (λ (b : Bool). Ok (cond b (first_memory depth counts draws) memory)) (eq-eqb step 0 first)
-    ∙ (λ i. Ok (record { intended = None; priorities = map (λ thread. depth - 1 + sym long i - place_of ((both i).0) thread) (range_with_len 0 (sym long i)); changes = (both i).1 }))
+    ∙ (λ i. Ok (record {
+      intended = None;
+      priorities =
+          map (λ thread. depth - 1 + sym long i - place_of ((both i).0) thread) (range_with_len 0 (sym long i));
+      changes = (both i).1;
+    }))
     ∙ (λ i. Ok (record { intended = None; priorities = sym priorities i; changes = sym points i }))

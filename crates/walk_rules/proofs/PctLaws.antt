@@ -13,7 +13,8 @@ either-holds : (P : ℕ → Type 0) (b : Bool) (x y : ℕ) → P x → P y → P
 either-holds P true x y one other = one
 either-holds P false x y one other = other
 
-higher-holds : (P : ℕ → Type 0) (priorities : List ℕ) (thread : ℕ) (threads : List ℕ) → P thread → ((d : ℕ) → d < length threads → P (get_or threads d 0)) → P (higher priorities thread threads)
+higher-holds : (P : ℕ → Type 0) (priorities : List ℕ) (thread : ℕ) (threads : List ℕ) → P thread → ((d : ℕ) → d < length threads → P (get_or threads d 0))
+    → P (higher priorities thread threads)
 unfolding higher
 higher-holds P priorities thread [] one each = one
 higher-holds P priorities thread (other ∷ others) one each =
@@ -21,7 +22,8 @@ higher-holds P priorities thread (other ∷ others) one each =
     (either-holds P (ltb (get_or priorities thread 0) (get_or priorities other 0)) other thread (each 0 (omega arith)) one)
     (λ d lt. each (suc d) (omega (arith, lt)))
 
-pub highest-holds : (P : ℕ → Type 0) (priorities : List ℕ) (threads : List ℕ) → 0 < length threads → ((d : ℕ) → d < length threads → P (get_or threads d 0)) → P (highest priorities threads)
+pub highest-holds : (P : ℕ → Type 0) (priorities : List ℕ) (threads : List ℕ) → 0 < length threads → ((d : ℕ) → d < length threads → P (get_or threads d 0))
+    → P (highest priorities threads)
 highest-holds P priorities [] some each = absurd (omega arith)
 highest-holds P priorities (thread ∷ threads) some each = higher-holds P priorities thread threads (each 0 (omega arith)) (λ d lt. each (suc d) (omega (arith, lt)))
 

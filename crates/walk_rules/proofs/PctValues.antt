@@ -25,7 +25,13 @@ view = Able true ∷ Able true ∷ []
 
 -- priorities 4 and 3; the first point lowers thread 0 to 1, the second thread 1 to 2
 two_points : pct_pick 3 walk view (strict (0 ∷ 0 ∷ 0 ∷ 0 ∷ [])) (strict [])
-    ≡ record { selected_bounds = 2 ∷ 1 ∷ 2 ∷ 2 ∷ []; other_bounds = []; picked = picked.Grant 1 false; memory = record { intended = None; priorities = 1 ∷ 2 ∷ []; changes = 0 ∷ 0 ∷ [] } }
+    ≡ record {
+      selected_bounds = 2 ∷ 1 ∷ 2 ∷ 2 ∷ [];
+      other_bounds = [];
+      picked = picked.Grant 1 false;
+      memory =
+          record { intended = None; priorities = 1 ∷ 2 ∷ []; changes = 0 ∷ 0 ∷ [] };
+    }
 unfolding changed falling first_memory higher place_of able_threads answers named_order bag pick less_one
 two_points = refl
 

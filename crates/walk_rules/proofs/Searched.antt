@@ -32,7 +32,8 @@ pub record IsSearchTo (test : ℕ → Bool) (order : List ℕ) (at : Option ℕ)
   pub next : at ≡ slice_get order (place_found order at)
   pub same : find test (drop (place_found order at) order) ≡ find test order
 
-found-place : (order : List ℕ) (place : ℕ) (at : Option ℕ) → slice_get order place ≡ at → place ≤ length order → ((node : ℕ) → times node order ≤ 1) → place_found order at ≡ place
+found-place : (order : List ℕ) (place : ℕ) (at : Option ℕ) → slice_get order place ≡ at → place ≤ length order → ((node : ℕ) → times node order ≤ 1)
+    → place_found order at ≡ place
 found-place order place None is within once = omega (arith, within, get-none order place is)
 found-place order place (Some node) is within once = place-at order place node is (once node)
 
@@ -66,7 +67,8 @@ module _ (test : ℕ → Bool) (order : List ℕ) (node : ℕ) (to : IsSearchTo 
   pub search-found : test node ≡ true → Some node ≡ find test order
   search-found passes = sym (split ∙ ap (λ (b : Bool). cond b (Some node) (find test (drop (place_of order node + 1) order))) passes) ∙ to.same
 
-  pub search-smaller : ((other : ℕ) → times other order ≤ 1) → length order - place_found order (slice_get order (suc (place_of order node))) < length order - place_of order node
+  pub search-smaller : ((other : ℕ) → times other order ≤ 1)
+      → length order - place_found order (slice_get order (suc (place_of order node))) < length order - place_of order node
   search-smaller once =
       omega (arith, search-within, found-place order (suc (place_of order node)) (slice_get order (suc (place_of order node))) refl (omega (arith, search-within)) once)
 
@@ -83,7 +85,8 @@ at-most-once lists one each_once node =
     ]
 
 -- a node of the list is one of the nodes
-pub search-node : (test : ℕ → Bool) (lists : List (List ℕ)) (node : ℕ) → length lists ≡ 1 → HasEachOnce lists → IsSearchTo test (list_at lists 0) (Some node) → node < node_count lists
+pub search-node : (test : ℕ → Bool) (lists : List (List ℕ)) (node : ℕ) → length lists ≡ 1 → HasEachOnce lists → IsSearchTo test (list_at lists 0) (Some node)
+    → node < node_count lists
 search-node test lists node one each_once to =
     node-within lists 0 node each_once (omega (arith, one)) (get-in (list_at lists 0) (place_of (list_at lists 0) node) node (sym to.next))
 

@@ -37,7 +37,8 @@ narrow-more test kept now n number false is short passes same more = (
 )
 
 -- each narrow candidate is able
-pub narrow-able : (intended : Option ℕ) (view : List Seen) (d : ℕ) → d < length (narrow intended view) → IsTrue (is_able (seen_of view (get_or (narrow intended view) d 0)))
+pub narrow-able : (intended : Option ℕ) (view : List Seen) (d : ℕ) → d < length (narrow intended view)
+    → IsTrue (is_able (seen_of view (get_or (narrow intended view) d 0)))
 unfolding narrow
 narrow-able intended view d lt =
     let test : ℕ → Bool = is_narrow intended view in
@@ -45,7 +46,8 @@ narrow-able intended view d lt =
     both-first (is_able (seen_of view thread)) (not (is_chosen (seen_of view thread)) || is_intended intended thread)
     (All-get_or (λ t. test t ≡ true) (narrow intended view) d 0 lt (filter_passes test (range_with_len 0 (length view))))
 
-pub candidate-able : (intended : Option ℕ) (view : List Seen) (d : ℕ) → d < length (candidates intended view) → IsTrue (is_able (seen_of view (get_or (candidates intended view) d 0)))
+pub candidate-able : (intended : Option ℕ) (view : List Seen) (d : ℕ) → d < length (candidates intended view)
+    → IsTrue (is_able (seen_of view (get_or (candidates intended view) d 0)))
 candidate-able intended view d lt = elim (cases_Bool (is_forced intended view)) [
   | inl forced ↦
       let all : candidates intended view ≡ able_threads view = cond-true (is_forced intended view) (able_threads view) (narrow intended view) forced in
@@ -79,7 +81,8 @@ surw-granted view (Ok intended) other source some =
     candidate-granted view intended (other (bound ∷ [])) (λ draws is. source.below (bound ∷ []) draws is 0 (omega arith) (omega (arith, one)))
 surw-granted view (Err fault) other source some = tt
 
-answer-ok : (view : List Seen) (intended : Option ℕ) (answer : Result (List ℕ) DrawFault) (thread : ℕ) (forced : Bool) → candidate_at view intended answer ≡ Grant thread forced → IsOk answer
+answer-ok : (view : List Seen) (intended : Option ℕ) (answer : Result (List ℕ) DrawFault) (thread : ℕ) (forced : Bool)
+    → candidate_at view intended answer ≡ Grant thread forced → IsOk answer
 answer-ok view intended (Ok draws) thread forced is = refl
 answer-ok view intended (Err fault) thread forced is = cc
 

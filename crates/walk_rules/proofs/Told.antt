@@ -36,7 +36,8 @@ pub reached-waiting : (steps : ℕ) (waiting : Option Grant) → IsSome waiting 
 reached-waiting steps None waits = absurd (false≢true waits)
 reached-waiting steps (Some grant) waits = refl
 
-pct-told : (rule : Rule) (threads before now : ℕ) (intended later : Option ℕ) (ranks : Option Ranked) → before ≡ now → (intended ≡ None → later ≡ None) → IsUnderPct rule threads before intended ranks
+pct-told : (rule : Rule) (threads before now : ℕ) (intended later : Option ℕ) (ranks : Option Ranked) → before ≡ now → (intended ≡ None → later ≡ None)
+    → IsUnderPct rule threads before intended ranks
     → IsUnderPct rule threads now later ranks
 pct-told Urw threads before now intended later ranks same idle is = is
 pct-told Surw threads before now intended later ranks same idle is = is
@@ -56,21 +57,42 @@ pub told-same : (walk : Inside) (intended : Option ℕ) (steps : ℕ) → steps 
     → IsWalk record { rule = walk.rule; counts = walk.counts; steps = steps; left = walk.left; intended = intended; ranks = walk.ranks; waiting = None }
 told-same walk intended steps more idle is waits =
     let room = is.room waits in
-    record { few = is.few; each = is.each; within = is.within; told = omega arith; room = λ none. absurd (false≢true none); pct = pct-told walk.rule (length walk.counts) (reached walk.steps walk.waiting) steps walk.intended intended walk.ranks (reached-waiting walk.steps walk.waiting waits ∙ sym more) idle is.pct }
+    record {
+      few = is.few;
+      each = is.each;
+      within = is.within;
+      told = omega arith;
+      room = λ none. absurd (false≢true none);
+      pct =
+          pct-told walk.rule (length walk.counts) (reached walk.steps walk.waiting) steps walk.intended intended walk.ranks
+          (reached-waiting walk.steps walk.waiting waits ∙ sym more) idle is.pct;
+    }
 
 -- and where they are one less for a thread
-pub told-less : (walk : Inside) (intended : Option ℕ) (steps thread : ℕ) (left : List ℕ) → steps ≡ walk.steps + 1 → (walk.intended ≡ None → intended ≡ None) → left ≡ less_one walk.left thread
+pub told-less : (walk : Inside) (intended : Option ℕ) (steps thread : ℕ) (left : List ℕ) → steps ≡ walk.steps + 1 → (walk.intended ≡ None → intended ≡ None)
+    → left ≡ less_one walk.left thread
     → IsWalk walk → IsSome walk.waiting
     → IsWalk record { rule = walk.rule; counts = walk.counts; steps = steps; left = left; intended = intended; ranks = walk.ranks; waiting = None }
 told-less walk intended steps thread left more idle less is waits =
     let room = is.room waits in
-    let kept : IsWalk record { rule = walk.rule; counts = walk.counts; steps = steps; left = less_one walk.left thread; intended = intended; ranks = walk.ranks; waiting = None } =
+    let kept : IsWalk record {
+      rule = walk.rule;
+      counts = walk.counts;
+      steps = steps;
+      left = less_one walk.left thread;
+      intended = intended;
+      ranks =
+          walk.ranks;
+      waiting = None;
+    } =
     record {
       few = is.few;
       each = omega (arith, length-less_one walk.left thread, is.each);
       within = λ other. omega (arith, less_one-le walk.left thread other, is.within other);
       told = omega arith;
       room = λ none. absurd (false≢true none);
-      pct = pct-told walk.rule (length walk.counts) (reached walk.steps walk.waiting) steps walk.intended intended walk.ranks (reached-waiting walk.steps walk.waiting waits ∙ sym more) idle is.pct;
+      pct = pct-told walk.rule (length walk.counts) (reached walk.steps walk.waiting) steps walk.intended intended walk.ranks
+          (reached-waiting walk.steps walk.waiting waits ∙ sym more) idle is.pct;
     } in
-    subst (λ (l : List ℕ). IsWalk record { rule = walk.rule; counts = walk.counts; steps = steps; left = l; intended = intended; ranks = walk.ranks; waiting = None }) (sym less) kept
+    subst (λ (l : List ℕ). IsWalk record
+    { rule = walk.rule; counts = walk.counts; steps = steps; left = l; intended = intended; ranks = walk.ranks; waiting = None }) (sym less) kept

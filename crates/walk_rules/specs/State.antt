@@ -19,10 +19,12 @@ new_memory = record { intended = None; priorities = []; changes = [] }
 abbrev pub memory_of : Ranked → Memory
 memory_of ranks = record { intended = None; priorities = ranks.priorities; changes = ranks.changes }
 
+-- the priorities that ranks have, where there are any
 abbrev pub priorities_of : Option Ranked → List ℕ
 priorities_of None = []
 priorities_of (Some ranks) = ranks.priorities
 
+-- and their change points
 abbrev pub changes_of : Option Ranked → List ℕ
 changes_of None = []
 changes_of (Some ranks) = ranks.changes

@@ -3,9 +3,9 @@ ghost use Rattle.draw_split.specs.Named.{named_order};
 ghost use Rattle.seed_draws.specs.Answers.{after_bounds, answers};
 ghost use Rattle.surw_base.specs.declared.limits.TheConstants.{STEPS, THREADS};
 ghost use Rattle.seed_draws.specs.Falling.{falling};
-ghost use Rattle.walk_rules.specs.Pct.{change_bounds, found_by, pct_asked, pct_bounds, pct_memory, pct_picked};
+ghost use Rattle.walk_rules.specs.Pct.{change_bounds, pct_asked, pct_bounds, pct_memory, pct_picked};
 ghost use Rattle.walk_rules.specs.Ranked.{IsFresh, IsReadyFor};
-ghost use Rattle.walk_rules.specs.PctDraws.{draws_found, order_found};
+ghost use Rattle.walk_rules.specs.PctDraws.{draws_found, found_from, order_found};
 ghost use Rattle.walk_rules.specs.State.{memory_of};
 ghost use Rattle.walk_rules.specs.Ranks.{IsOrder};
 ghost use Rattle.walk_rules.specs.Seen.{able_threads};
@@ -34,8 +34,8 @@ pub(crate) fn pick<S: Draws>(
     requires able { 0 < length (able_threads view.now) }
     requires drawn { 0 < step → length ranks.old.priorities ≡ length counts.now }
     requires fresh { 0 < step → IsFresh step ranks.old.changes ranks.old.priorities }
-    ensures picked { result ≡ pct_picked step view.now (found_by depth step counts.now (memory_of ranks.old) (answers S.Draws selected.old (pct_asked depth step counts.now))) }
-    ensures memory { memory_of ranks.new ≡ pct_memory step view.now (memory_of ranks.old) (found_by depth step counts.now (memory_of ranks.old) (answers S.Draws selected.old (pct_asked depth step counts.now))) }
+    ensures picked { result ≡ pct_picked step view.now (found_from S.Draws depth step counts.now ranks.old selected.old) }
+    ensures memory { memory_of ranks.new ≡ pct_memory step view.now (memory_of ranks.old) (found_from S.Draws depth step counts.now ranks.old selected.old) }
     ensures able { GrantsAble view.now result }
     ensures selected { selected.new ≡ after_bounds S.Draws selected.old (pct_asked depth step counts.now) }
     ensures threads { ranks.new.threads ≡ ranks.old.threads }
@@ -66,8 +66,8 @@ fn ready<S: Draws>(
     requires drawn { 0 < step → length ranks.old.priorities ≡ length counts.now }
     requires fresh { 0 < step → IsFresh step ranks.old.changes ranks.old.priorities }
     ensures found { MatchResult result
-        (λ _. found_by depth step counts.now (memory_of ranks.old) (answers S.Draws selected.old (pct_asked depth step counts.now)) ≡ Ok (memory_of ranks.new))
-        (λ fault. found_by depth step counts.now (memory_of ranks.old) (answers S.Draws selected.old (pct_asked depth step counts.now)) ≡ Err fault) }
+        (λ _. found_from S.Draws depth step counts.now ranks.old selected.old ≡ Ok (memory_of ranks.new))
+        (λ fault. found_from S.Draws depth step counts.now ranks.old selected.old ≡ Err fault) }
     ensures threads { ranks.new.threads ≡ length counts.now }
     ensures drawn { OnOk result (length ranks.new.priorities ≡ length counts.now) }
     ensures fresh { OnOk result (IsFresh step ranks.new.changes ranks.new.priorities) }
@@ -93,7 +93,9 @@ fn draw<S: Draws>(
     selected: &mut S,
 ) -> Result<(ArrayVec<u8, THREADS>, ArrayVec<u64, THREADS>), DrawFault>
     requires depth { (1 ≤ depth) × (depth ≤ 16) }
-    ensures drawn { MatchResult result (λ drawn. draws_found (length counts.now) (answers S.Draws selected.old (pct_bounds depth counts.now)) ≡ Ok (drawn.0.items, drawn.1.items)) (λ fault. answers S.Draws selected.old (pct_bounds depth counts.now) ≡ Err fault) }
+    ensures drawn { MatchResult result
+        (λ drawn. draws_found (length counts.now) (answers S.Draws selected.old (pct_bounds depth counts.now)) ≡ Ok (drawn.0.items, drawn.1.items))
+        (λ fault. answers S.Draws selected.old (pct_bounds depth counts.now) ≡ Err fault) }
     ensures order { IfOk result (λ drawn. IsOrder (length counts.now) drawn.0.items) }
     ensures points { IfOk result (λ drawn. length drawn.1.items < depth) }
     ensures selected { selected.new ≡ after_bounds S.Draws selected.old (pct_bounds depth counts.now) }
@@ -112,7 +114,9 @@ fn draw_order<S: Draws>(
     counts: &Weights,
     selected: &mut S,
 ) -> Result<ArrayVec<u8, THREADS>, DrawFault>
-    ensures drawn { MatchResult result (λ order. order_found (replicate (length counts.now) 1) (answers S.Draws selected.old (falling (length counts.now))) ≡ Ok order.items) (λ fault. answers S.Draws selected.old (falling (length counts.now)) ≡ Err fault) }
+    ensures drawn { MatchResult result
+        (λ order. order_found (replicate (length counts.now) 1) (answers S.Draws selected.old (falling (length counts.now))) ≡ Ok order.items)
+        (λ fault. answers S.Draws selected.old (falling (length counts.now)) ≡ Err fault) }
     ensures order { IfOk result (λ order. IsOrder (length counts.now) order.items) }
     ensures selected { selected.new ≡ after_bounds S.Draws selected.old (falling (length counts.now)) }
 {
@@ -147,7 +151,9 @@ fn draw_changes<S: Draws>(
     selected: &mut S,
 ) -> Result<ArrayVec<u64, THREADS>, DrawFault>
     requires { (1 ≤ depth) × (depth ≤ 16) }
-    ensures drawn { MatchResult result (λ changes. answers S.Draws selected.old (change_bounds depth events) ≡ Ok changes.items) (λ fault. answers S.Draws selected.old (change_bounds depth events) ≡ Err fault) }
+    ensures drawn { MatchResult result
+        (λ changes. answers S.Draws selected.old (change_bounds depth events) ≡ Ok changes.items)
+        (λ fault. answers S.Draws selected.old (change_bounds depth events) ≡ Err fault) }
     ensures points { IfOk result (λ changes. length changes.items < depth) }
     ensures selected { selected.new ≡ after_bounds S.Draws selected.old (change_bounds depth events) }
 {

@@ -38,7 +38,14 @@ impl Model for Walk {
 
     ghost use Rattle.walk_rules.specs.WalkInside.{IsWalk};
 
-    ghost view = { λ walk. record { rule = walk.rule; counts = walk.counts; steps = walk.steps; left = walk.left; memory = ranked_memory walk.intended walk.ranks; waiting = walk.waiting } };
+    ghost view = { λ walk. record {
+      rule = walk.rule;
+      counts = walk.counts;
+      steps = walk.steps;
+      left = walk.left;
+      memory = ranked_memory walk.intended walk.ranks;
+      waiting = walk.waiting;
+    } };
 
     ghost invariant = { IsWalk };
 }

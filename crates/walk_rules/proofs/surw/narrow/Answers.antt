@@ -23,7 +23,8 @@ loop-thread-preserved c =
           c.loop-thread.invariant.0 c.loop-thread.invariant.1 (test ∙ w.if-is_candidate.true) refl (ap (λ a. a.items) w.narrow-is ∙ w.push.ensures.items)
       | else-is_candidate w ↦
           narrow-more (is_narrow c.args.intended.now c.args.view.now) c.loop-thread.narrow.items c.if-is_candidate.narrow.items n n false
-          c.loop-thread.invariant.0 c.loop-thread.invariant.1 (test ∙ w.if-is_candidate.false) refl (ap (λ a. a.items) w.narrow-is ∙ sym (append-nil c.loop-thread.narrow.items))
+          c.loop-thread.invariant.0 c.loop-thread.invariant.1 (test ∙ w.if-is_candidate.false) refl
+          (ap (λ a. a.items) w.narrow-is ∙ sym (append-nil c.loop-thread.narrow.items))
     ]
 
 pub returns : goal.returns
