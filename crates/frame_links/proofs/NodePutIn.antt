@@ -106,20 +106,42 @@ links-with after before owners lists node list front back right tail but low pla
       path = subst (λ n. IsPath (slice_index after_new) (slice_index before_new) n (points_past n lists_new)) (sym same_end) path_new;
       once = λ other lt. elim (cases_eq other node) as (λ _. times_in other lists_new ≡ 1) [
         | inl same ↦ subst (λ n. times_in n lists_new ≡ 1) (sym same)
-        (omega (arith, there_new node, split node, split_new node, times-same node node back refl, but.gone))
-        | inr ne ↦ omega (arith, there_new other, split other, split_new other, times-other other node back (λ e. ne (sym e)), but.once other ne
-        (omega (arith, lt, same_end)))
+            (omega (arith, there_new node, split node, split_new node, times-same node node back refl, but.gone))
+        | inr ne ↦ omega (
+          arith,
+          there_new other,
+          split other,
+          split_new other,
+          times-other other node back (λ e. ne (sym e)),
+          but.once other ne
+              (omega (arith, lt, same_end)),
+        )
       ];
-      within = λ other le. omega (arith, there_new other, split other, split_new other, times-other other node back
-      (λ e. omega (arith, e, low, le, same_end)), but.within other (omega (arith, le, same_end)));
+      within = λ other le. omega (
+        arith,
+        there_new other,
+        split other,
+        split_new other,
+        times-other other node back
+            (λ e. omega (arith, e, low, le, same_end)),
+        but.within other (omega (arith, le, same_end)),
+      );
       owned = λ other lt. elim (cases_eq other node) as (λ _. slice_index owners_new other ≡ list_of lists_new other) [
         | inl same ↦ ap (slice_index owners_new) same ∙ get_or-set_same owners node list 0 low
-        ∙ sym (ap (list_of lists_new) same ∙ list_of-set_new node lists list items place.there but.gone in_items)
+            ∙ sym (ap (list_of lists_new) same ∙ list_of-set_new node lists list items place.there but.gone in_items)
         | inr ne ↦ get_or-set_other owners node other list 0 ne ∙ but.owned other ne (omega (arith, lt, same_end))
-        ∙ sym (list_of-set_other other lists list items (others other ne))
+            ∙ sym (list_of-set_other other lists list items (others other ne))
       ];
-      nodes = omega (arith, node_count-set lists list items place.there, ap length place.parts, length-append front back, length-append front
-      (node ∷ back), but.nodes, same_end);
+      nodes = omega (
+        arith,
+        node_count-set lists list items place.there,
+        ap length place.parts,
+        length-append front back,
+        length-append front
+            (node ∷ back),
+        but.nodes,
+        same_end,
+      );
       points = omega (arith, length_after, but.points, same_end, length-set lists list items);
       both = omega (arith, length_before, length_after, but.both);
       fits = omega (arith, same_end, but.fits);

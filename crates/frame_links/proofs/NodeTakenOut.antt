@@ -38,8 +38,13 @@ neighbours after before owners lists node are low =
     let last_in : 1 ≤ times (slice_index before node) (length owners ∷ points_past (length owners) lists) =
     path-before_in (slice_index after) (slice_index before) (length owners) (points_past (length owners) lists) node are.path there in
     record {
-      next = omega (arith, are.both, are.points, points-within (slice_index after node) (length owners) lists are.within
-      (omega (arith, next_in, times-cons_le (slice_index after node) (length owners) (points_past (length owners) lists))));
+      next = omega (
+        arith,
+        are.both,
+        are.points,
+        points-within (slice_index after node) (length owners) lists are.within
+            (omega (arith, next_in, times-cons_le (slice_index after node) (length owners) (points_past (length owners) lists))),
+      );
       last = omega (arith, are.points, points-within (slice_index before node) (length owners) lists are.within last_in);
     }
 
@@ -73,7 +78,12 @@ links-without after before owners lists node are low =
       owned = λ other ne lt. are.owned other lt ∙ sym (list_of-taken_out other node lists ne);
       nodes = omega (arith, node_count-taken_out node lists, are.once node low, are.nodes);
       points = omega (arith, are.points, length-set after (slice_index before node) (slice_index after node), length-map lists (without node));
-      both = omega (arith, are.both, length-set after (slice_index before node) (slice_index after node), length-set before (slice_index after node)
-      (slice_index before node));
+      both = omega (
+        arith,
+        are.both,
+        length-set after (slice_index before node) (slice_index after node),
+        length-set before (slice_index after node)
+            (slice_index before node),
+      );
       fits = are.fits;
     }

@@ -5,7 +5,7 @@ use Rattle.std.proofs.lemmas.List.{length-set, get_or_past, get_or-set_same, get
 use Rattle.draw_split.specs.Bag.{less_one}
 use Rattle.walk_rules.specs.declared.picked.Grant.{Grant}
 use Rattle.walk_rules.specs.declared.rule.Rule.{Rule}
-use Rattle.walk_rules.specs.declared.rule.Rule.TheVariants.{Urw, Surw, Pct, Plain}
+use Rattle.walk_rules.specs.declared.rule.Rule.TheVariants.{Pct}
 use Rattle.walk_rules.specs.Ranked.{Ranked}
 use Rattle.walk_rules.specs.UnderPct.{AreReady, IsUnderPct, reached}
 use Rattle.walk_rules.specs.WalkInside.{IsWalk}
@@ -39,10 +39,8 @@ reached-waiting steps (Some grant) waits = refl
 pct-told : (rule : Rule) (threads before now : ℕ) (intended later : Option ℕ) (ranks : Option Ranked) → before ≡ now → (intended ≡ None → later ≡ None)
     → IsUnderPct rule threads before intended ranks
     → IsUnderPct rule threads now later ranks
-pct-told Urw threads before now intended later ranks same idle is = is
-pct-told Surw threads before now intended later ranks same idle is = is
-pct-told Plain threads before now intended later ranks same idle is = is
 pct-told (Pct depth) threads before now intended later ranks same idle is = (is.0, idle is.1, subst (λ n. AreReady threads n ranks) same is.2)
+pct-told rule threads before now intended later ranks same idle is = is
 
 cond-same : (b : Bool) → cond {A = Option ℕ} b None None ≡ None
 cond-same true = refl

@@ -4,13 +4,16 @@ ghost use Rattle.walk_rules.specs.Strategies.{counts_down};
 use std::alloc::Global;
 use surw_base::OutOfMemory;
 
-/// A strategy.
+/// A strategy. URW and SURW are after Zhao, Wolff, Mathur and Roychoudhury, "Selectively Uniform Concurrency Testing",
+/// ASPLOS 2025; PCT is after Burckhardt, Kothari, Musuvathi and Nagarakatte, "A Randomized Scheduler with
+/// Probabilistic Guarantees of Finding Bugs", ASPLOS 2010. The details are this project's own.
 #[derive(Debug, Drop, PartialEq, Eq)]
 pub enum Rule {
     /// Every event is selected, and the next thread is picked with a weight equal to its number of events left.
     Urw,
     /// A thread is intended with a weight equal to its number of selected events left, until it makes one; an other
-    /// draw picks among the threads whose event isn't selected and the intended one.
+    /// draw picks among the threads whose event isn't selected and the intended one. Where none of these can go on,
+    /// the step is forced, and picks among all that can.
     Surw,
     /// Each thread has a drawn priority, and the highest that can go on is picked; at drawn steps it gets a low one.
     Pct {

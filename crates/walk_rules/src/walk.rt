@@ -115,7 +115,7 @@ impl Walk {
         self.steps
     }
 
-    /// Picks the thread of the next step by a draw of the source that its rule asks. The step is the number of
+    /// Picks the thread of the next step by the draws that its rule asks of each source. The step is the number of
     /// steps told before; no grant waits, some thread can go on, and no thread is wrong. It stops only where a
     /// source refuses in this call, and is then as before.
     #[tactic(auto, unfolding(seed_draws::specs::Answers::after_bounds))]
