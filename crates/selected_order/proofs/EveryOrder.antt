@@ -91,12 +91,12 @@ count-same p q (x ∷ xs) same =
     ∙ sym (sum_by-cons (λ y. cond (q y) 1 0) x xs)
 
 pub orders-come-equally-often : (script : Script) → OrdersComeEquallyOftenOf script
-orders-come-equally-often script rule tame others journal_of runs order fits =
+orders-come-equally-often script rule tame others_of journal_of runs order fits =
     let counts : List ℕ = script.setup.counts in
     let made : List ℕ → List ℕ = λ draws. selected_order script.setup.selection (journal_of draws) in
     count-same (λ draws. bytes_eq (made draws) order) (λ draws. bytes_eq (named_order counts draws) order) (all_draws counts)
     (λ k d lt.
     let draws : List ℕ = get_or (all_draws counts) k d in
     let list : IsDrawList counts draws = no-other-listed counts k d lt in
-    ap (λ named. bytes_eq named order) (order-is script others draws (journal_of draws) rule tame list (runs draws list)))
+    ap (λ named. bytes_eq named order) (order-is script (others_of draws) draws (journal_of draws) rule tame list (runs draws list)))
     ∙ equally-many counts order fits

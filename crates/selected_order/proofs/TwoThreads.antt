@@ -101,11 +101,11 @@ two-say-so-many = record {
 pub two-threads-tame : IsTame two_threads
 two-threads-tame = says-so-many-tame two_threads two-say-so-many
 
--- so, with one other tape, each order of two events a thread comes on 4 draw lists
-pub two-threads-often : (others : List ℕ) (journal_of : List ℕ → List Entry)
-    → ((draws : List ℕ) → IsDrawList (2 ∷ 2 ∷ []) draws → IsRunJournal (with_tapes two_threads draws others) (journal_of draws))
+-- so, with any other tape for each draw list, each order of two events a thread comes on 4 draw lists
+pub two-threads-often : (others_of : List ℕ → List ℕ) (journal_of : List ℕ → List Entry)
+    → ((draws : List ℕ) → IsDrawList (2 ∷ 2 ∷ []) draws → IsRunJournal (with_tapes two_threads draws (others_of draws)) (journal_of draws))
     → (order : List ℕ) → Fits (2 ∷ 2 ∷ []) order
     → count_by (λ draws. bytes_eq (selected_order (Of Cell ∷ []) (journal_of draws)) order) (all_draws (2 ∷ 2 ∷ [])) ≡ 4
 unfolding factorials factorial
-two-threads-often others journal_of runs order fits =
-    orders-come-equally-often two_threads refl two-threads-tame others journal_of runs order fits
+two-threads-often others_of journal_of runs order fits =
+    orders-come-equally-often two_threads refl two-threads-tame others_of journal_of runs order fits

@@ -1,9 +1,7 @@
 //! What holds of SURW. A law does nothing when it is called: its contract is the law.
 
-ghost use Rattle.seed_draws.specs.Answers.{source_of};
-ghost use Rattle.seed_draws.specs.TapeSource.{loose_draws, strict_draws};
-ghost use Rattle.run_rules.specs.Plan.{script_of, IsValidPlan};
-ghost use Rattle.selected_order.specs.EveryOrder.{EveryOrderOf, OrdersComeEquallyOftenOf};
+ghost use Rattle.run_rules.specs.Plan.{IsValidPlan};
+ghost use Rattle.selected_order.specs.EveryOrder.{tape_script, EveryOrderOf, OrdersComeEquallyOftenOf};
 ghost use Rattle.selected_order.specs.SelectedOrder.{EndsInOrder};
 ghost use Rattle.selected_order.specs.SurwIsUrw.{SurwIsUrwOf};
 ghost use Rattle.selected_order.specs.SurwScript.{EndsUnforced};
@@ -28,8 +26,8 @@ pub fn ends_unforced()
 /// lists.
 pub fn every_order<R: Routine>(plan: &Plan<R, StrictTape, LooseTape>)
     requires { IsValidPlan plan.now }
-    ensures named { EveryOrderOf (script_of R.announced R.after_reply (source_of strict_draws plan.now.selected) (source_of loose_draws plan.now.other) plan.now) }
-    ensures equally { OrdersComeEquallyOftenOf (script_of R.announced R.after_reply (source_of strict_draws plan.now.selected) (source_of loose_draws plan.now.other) plan.now) }
+    ensures named { EveryOrderOf (tape_script R.announced R.after_reply plan.now) }
+    ensures equally { OrdersComeEquallyOftenOf (tape_script R.announced R.after_reply plan.now) }
 {
     let _ = plan;
 }
@@ -38,7 +36,7 @@ pub fn every_order<R: Routine>(plan: &Plan<R, StrictTape, LooseTape>)
 /// same verdict.
 pub fn surw_is_urw<R: Routine>(plan: &Plan<R, StrictTape, LooseTape>)
     requires { IsValidPlan plan.now }
-    ensures { SurwIsUrwOf (script_of R.announced R.after_reply (source_of strict_draws plan.now.selected) (source_of loose_draws plan.now.other) plan.now) }
+    ensures { SurwIsUrwOf (tape_script R.announced R.after_reply plan.now) }
 {
     let _ = plan;
 }
