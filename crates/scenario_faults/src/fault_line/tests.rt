@@ -19,7 +19,7 @@ const NO_THREADS: &str =
 fn each_fault_has_its_line(rt: HostRuntime) -> Result<(), Fail> {
     let rows = [
         ("= 1", "fault scenario not_toml\n"),
-        ("", "fault scenario missing strategy\n"),
+        ("", "fault scenario missing counts\n"),
         (
             "strategy = 'urw'\nseed = '7'",
             "fault scenario wrong_kind seed\n",
