@@ -1,11 +1,11 @@
--- An event that is printed and not followed by a digit is the longest front, and so is read again.
+-- An event that is printed and not followed by a digit is the longest prefix, and so is read again.
 use Rattle.std.proofs.Common.{◌≡◌, ℕ, ◌+◌, ◌^◌, ◌<◌, List, [], ◌∷◌, ◌++◌, length, get_or, take, drop, refl, ap, sym, subst, ◌∙◌, arith, add-zero}
 use Rattle.std.proofs.lemmas.List.{append-nil, append_assoc, drop-drop, drop_at, get_or-drop, append_cancel_left, nil_from_length, length-take-le, length-drop}
-use Rattle.std.proofs.lemmas.List.Prefix.{front_rest}
+use Rattle.std.proofs.lemmas.List.Prefix.{prefix_rest}
 use Rattle.std.proofs.lemmas.List.Elements.{All-head, All-tail, All-nil}
 use Rattle.std.specs.Fmt.{decimal}
-use Rattle.surw_base.proofs.Fronts.{BeginsWithNoDigit, number-front, number-again, longest-length}
-use Rattle.surw_base.specs.Front.{IsLongestFront, HasNoFront}
+use Rattle.surw_base.proofs.Prefixes.{BeginsWithNoDigit, number-prefix, number-again, longest-length}
+use Rattle.surw_base.specs.Prefix.{IsLongestPrefix, HasNoPrefix}
 use Rattle.surw_base.specs.Number.{IsNumberText}
 use Rattle.event_class.specs.declared.event.Event.{Event}
 use Rattle.event_class.specs.declared.event.Event.TheVariants.{Acquire, Release, Load, Store, Add, SwapIf, Find, Claim, Fill, Read, Write, Oldest, Stamp, Flush, Reserve, Put, Mark, Durable, Check}
@@ -18,16 +18,16 @@ no-digit : (ns tail : List ℕ) → BeginsWithNoDigit tail → BeginsWithNoDigit
 no-digit [] tail other = other
 no-digit (n ∷ ns) tail other = λ digit. omega (arith, digit)
 
--- the longest front of some numbers grows to that of all
+-- the longest prefix of some numbers grows to that of all
 numbers-from : (text all done todo tail : List ℕ) (i count len : ℕ) → AreSmall todo → BeginsWithNoDigit tail → done ++ todo ≡ all → length all ≡ count
-    → drop len text ≡ numbers_text todo ++ tail → IsLongestFront (AreNumbersText i) text done len
-    → (n : ℕ) × IsLongestFront (AreNumbersText count) text all n
+    → drop len text ≡ numbers_text todo ++ tail → IsLongestPrefix (AreNumbersText i) text done len
+    → (n : ℕ) × IsLongestPrefix (AreNumbersText count) text all n
 numbers-from text all done [] tail i count len small other whole many rest longest =
     let same : done ≡ all = sym (append-nil done) ∙ whole in
-    let k : i ≡ count = omega (arith, longest.front.many, ap length same, many) in (
+    let k : i ≡ count = omega (arith, longest.prefix.many, ap length same, many) in (
       len,
-      subst (λ (l : List ℕ). IsLongestFront (AreNumbersText count) text l len) same
-          (subst (λ (m : ℕ). IsLongestFront (AreNumbersText m) text done len) k longest),
+      subst (λ (l : List ℕ). IsLongestPrefix (AreNumbersText count) text l len) same
+          (subst (λ (m : ℕ). IsLongestPrefix (AreNumbersText m) text done len) k longest),
     )
 numbers-from text all done (v ∷ vs) tail i count len small other whole many rest longest =
     let P : ℕ → Type 0 = λ m. m < 2 ^ 64 in
@@ -38,8 +38,8 @@ numbers-from text all done (v ∷ vs) tail i count len small other whole many re
     omega (arith, ap length behind, length-drop len text) in
     let space : get_or text len 0 ≡ 32 = sym (get_or-drop len text 0 0 ∙ ap (λ (k : ℕ). get_or text k 0) (add-zero len)) ∙ ap (λ (l : List ℕ). get_or l 0 0) behind in
     let digits : drop (len + 1) text ≡ decimal v ++ after = sym (drop-drop 1 len text) ∙ ap (drop 1) behind in
-    let number = subst (λ (l : List ℕ). IsLongestFront IsNumberText l v (length (decimal v))) (sym digits)
-    (number-front v after (All-head P v vs small) (no-digit vs tail other)) in
+    let number = subst (λ (l : List ℕ). IsLongestPrefix IsNumberText l v (length (decimal v))) (sym digits)
+    (number-prefix v after (All-head P v vs small) (no-digit vs tail other)) in
     let more = one-more text done i len v (length (decimal v)) longest room space number in
     numbers-from text all (done ++ v ∷ []) vs tail (i + 1) count (len + (1 + length (decimal v))) (All-tail P v vs small) other
     (append_assoc done (v ∷ []) vs ∙ whole) many
@@ -47,11 +47,11 @@ numbers-from text all done (v ∷ vs) tail i count len small other whole many re
     ∙ sym (drop-drop (length (decimal v)) (len + 1) text) ∙ ap (drop (length (decimal v))) digits ∙ drop_at (decimal v) after (length (decimal v)) refl)
     more
 
--- no number at all is a front
-none-yet : (text : List ℕ) → IsLongestFront (AreNumbersText 0) text [] 0
+-- no number at all is a prefix
+none-yet : (text : List ℕ) → IsLongestPrefix (AreNumbersText 0) text [] 0
 none-yet text = record {
   within = omega arith;
-  front = record { text = refl; many = refl; below = All-nil (λ (m : ℕ). m < 2 ^ 64) };
+  prefix = record { text = refl; many = refl; below = All-nil (λ (m : ℕ). m < 2 ^ 64) };
   longest = λ n ws lt within is.
       omega (arith, length-take-le n text within, ap length is.text, ap (λ (l : List ℕ). length (numbers_text l)) (nil_from_length ws is.many));
 }
@@ -70,7 +70,7 @@ same-numbers (u ∷ us) (v ∷ vs) small fits many is =
     let P : ℕ → Type 0 = λ m. m < 2 ^ 64 in
     let digits : decimal u ++ numbers_text us ≡ decimal v ++ numbers_text vs = ap (drop 1) is in
     let both = number-again (decimal u ++ numbers_text us) (numbers_text vs) v u (length (decimal u)) digits (All-head P v vs fits) (starts-none vs)
-    (number-front u (numbers_text us) (All-head P u us small) (starts-none us)) in
+    (number-prefix u (numbers_text us) (All-head P u us small) (starts-none us)) in
     let rest : numbers_text us ≡ numbers_text vs = sym (drop_at (decimal u) (numbers_text us) (length (decimal u)) refl) ∙ both.1 in
     let more = same-numbers us vs (All-tail P u us small) (All-tail P v vs fits) (omega (arith, many)) rest in
     λ i. both.0 i ∷ more i
@@ -113,34 +113,34 @@ same-text v w small fits is =
     (is ∙ ap (λ (verb : List ℕ). verb ++ numbers_text (numbers_of w)) (sym kind.verb)) in
     same-event v w kind.verb (same-numbers (numbers_of v) (numbers_of w) small fits kind.many numbers)
 
--- an event that is printed is the longest front
-pub printed-front : (text : List ℕ) (event : Event) (tail : List ℕ) → IsPrinted text event tail → IsLongestFront IsEventText text event (length (event_text event))
-printed-front text event tail is =
+-- an event that is printed is the longest prefix
+pub printed-prefix : (text : List ℕ) (event : Event) (tail : List ℕ) → IsPrinted text event tail → IsLongestPrefix IsEventText text event (length (event_text event))
+printed-prefix text event tail is =
     let verb = verb_of event in
     let ns = numbers_of event in
     let begins : text ≡ verb ++ (numbers_text ns ++ tail) = is.text ∙ append_assoc verb (numbers_text ns) tail in
-    let rest : drop (length verb) text ≡ numbers_text ns ++ tail = front_rest text verb (numbers_text ns ++ tail) begins in
+    let rest : drop (length verb) text ≡ numbers_text ns ++ tail = prefix_rest text verb (numbers_text ns ++ tail) begins in
     let numbers = numbers-from (drop (length verb) text) ns [] ns tail 0 (length ns) 0 is.below is.apart refl refl rest (none-yet (drop (length verb) text)) in
     let whole = longest-event text event event ns numbers.0 (true-begins text verb (numbers_text ns ++ tail) begins) refl refl numbers.1 in
     let long : length verb + numbers.0 ≡ length (event_text event) =
-    sym (length-take-le (length verb + numbers.0) text whole.within) ∙ ap length whole.front.text in
-    subst (IsLongestFront IsEventText text event) long whole
+    sym (length-take-le (length verb + numbers.0) text whole.within) ∙ ap length whole.prefix.text in
+    subst (IsLongestPrefix IsEventText text event) long whole
 
--- so such a text has a front
-pub printed-some : (text : List ℕ) (event : Event) (tail : List ℕ) → IsPrinted text event tail → HasNoFront IsEventText text → ⊥
+-- so such a text has a prefix
+pub printed-some : (text : List ℕ) (event : Event) (tail : List ℕ) → IsPrinted text event tail → HasNoPrefix IsEventText text → ⊥
 printed-some text event tail is none =
-    let front = printed-front text event tail is in
-    none (length (event_text event)) event front.within front.front
+    let prefix = printed-prefix text event tail is in
+    none (length (event_text event)) event prefix.within prefix.prefix
 
--- and its longest front is that event, with its length
+-- and its longest prefix is that event, with its length
 pub printed-again : (text : List ℕ) (event : Event) (tail : List ℕ) (v : Event) (len : ℕ) → IsPrinted text event tail
-    → IsLongestFront IsEventText text v len → (v ≡ event) × (len ≡ length (event_text event))
+    → IsLongestPrefix IsEventText text v len → (v ≡ event) × (len ≡ length (event_text event))
 printed-again text event tail v len is longest =
-    let there = printed-front text event tail is in
+    let there = printed-prefix text event tail is in
     let long = longest-length IsEventText text v event len (length (event_text event)) longest there in
-    let same = sym longest.front.text ∙ ap (λ (n : ℕ). take n text) long ∙ there.front.text in
-    (same-text v event longest.front.below is.below same, long)
+    let same = sym longest.prefix.text ∙ ap (λ (n : ℕ). take n text) long ∙ there.prefix.text in
+    (same-text v event longest.prefix.below is.below same, long)
 
 -- what is left behind it is the rest
 pub printed-rest : (text : List ℕ) (event : Event) (tail : List ℕ) → IsPrinted text event tail → drop (length (event_text event)) text ≡ tail
-printed-rest text event tail is = front_rest text (event_text event) tail is.text
+printed-rest text event tail is = prefix_rest text (event_text event) tail is.text

@@ -2,12 +2,12 @@
 use Rattle.std.proofs.Common.{◌≡◌, ℕ, ◌+◌, ◌-◌, ◌<◌, ◌≤◌, IsTrue, nat_eq, unwrap_or, List, ◌++◌, length, get_or, take, drop, refl, ap, sym, subst, ◌∙◌, arith, lit<, length-append}
 use Rattle.std.proofs.lemmas.Bool.Decides.{Decides-eqb}
 use Rattle.std.proofs.lemmas.List.{take-append-drop, length-take-le, take_at, length-drop, append_assoc}
-use Rattle.std.proofs.lemmas.List.Prefix.{front_rest}
+use Rattle.std.proofs.lemmas.List.Prefix.{prefix_rest}
 use Rattle.std.proofs.lemmas.Slice.Eq.{starts_is}
 use Rattle.std.proofs.Math.Seq.{take-add}
 use Rattle.std.specs.List.{starts_with, find, position}
 use Rattle.std.specs.Str.{bytes_eq}
-use Rattle.surw_base.specs.Front.{IsLongestFront, HasNoFront}
+use Rattle.surw_base.specs.Prefix.{IsLongestPrefix, HasNoPrefix}
 use Rattle.event_class.specs.declared.event.Event.{Event}
 use Rattle.event_class.specs.declared.event.Event.TheVariants.{Acquire, Oldest}
 use Rattle.event_class.specs.declared.event.TheConstants.{FORMS}
@@ -46,7 +46,7 @@ alike text v w r s one two =
     let second = subst (λ (l : List ℕ). AreAlike (form_by (take 3 l)) w) (sym two) (by-three w s) in
     record { verb = sym first.verb ∙ second.verb; many = sym first.many ∙ second.many }
 
--- the parts of a front that is an event's text
+-- the parts of a prefix that is an event's text
 pub record HasParts (text : List ℕ) (n : ℕ) (event : Event) : Type 0 where
   pub begins : text ≡ verb_of event ++ drop (length (verb_of event)) text
   pub within : length (verb_of event) ≤ n
@@ -58,7 +58,7 @@ parts text n event within is =
     let numbers = numbers_text (numbers_of event) in
     let whole : text ≡ verb ++ (numbers ++ drop n text) =
     sym (take-append-drop n text) ∙ ap (λ (l : List ℕ). l ++ drop n text) is.text ∙ append_assoc verb numbers (drop n text) in
-    let rest : drop (length verb) text ≡ numbers ++ drop n text = front_rest text verb (numbers ++ drop n text) whole in
+    let rest : drop (length verb) text ≡ numbers ++ drop n text = prefix_rest text verb (numbers ++ drop n text) whole in
     let long : n ≡ length verb + length numbers = omega (arith, length-take-le n text within, ap length is.text, length-append verb numbers) in
     let less : n - length verb ≡ length numbers = omega (arith, long) in
     record {
@@ -79,7 +79,7 @@ pub true-begins : (text verb rest : List ℕ) → text ≡ verb ++ rest → IsTr
 true-begins text verb rest is = (starts_is Decides-eqb text verb (starts_with nat_eq text verb) refl).1 rest is
 
 -- a text that no verb begins has no event at its front
-pub none-verb : (text : List ℕ) → ((event : Event) → IsTrue (starts_with nat_eq text (verb_of event)) → ⊥) → HasNoFront IsEventText text
+pub none-verb : (text : List ℕ) → ((event : Event) → IsTrue (starts_with nat_eq text (verb_of event)) → ⊥) → HasNoPrefix IsEventText text
 none-verb text none n w within is = none w (true-begins text (verb_of w) _ (parts text n w within is).begins)
 
 -- the numbers of any event at the front stand behind the verb that was found
@@ -96,26 +96,26 @@ behind text form w n found within is =
 
 -- so no event stands there where the numbers of that verb don't
 pub none-numbers : (text : List ℕ) (form : Event) → IsTrue (starts_with nat_eq text (verb_of form))
-    → HasNoFront (AreNumbersText (length (numbers_of form))) (drop (length (verb_of form)) text) → HasNoFront IsEventText text
+    → HasNoPrefix (AreNumbersText (length (numbers_of form))) (drop (length (verb_of form)) text) → HasNoPrefix IsEventText text
 none-numbers text form found none n w within is =
     let of = behind text form w n found within is in
     none (n - length (verb_of form)) (numbers_of w) (omega (arith, length-drop (length (verb_of form)) text)) of.1
 
--- and where they do, their longest front is the event's
+-- and where they do, their longest prefix is the event's
 pub longest-event : (text : List ℕ) (form event : Event) (numbers : List ℕ) (len : ℕ) → IsTrue (starts_with nat_eq text (verb_of form))
     → verb_of event ≡ verb_of form → numbers_of event ≡ numbers
-    → IsLongestFront (AreNumbersText (length (numbers_of form))) (drop (length (verb_of form)) text) numbers len
-    → IsLongestFront IsEventText text event (length (verb_of form) + len)
+    → IsLongestPrefix (AreNumbersText (length (numbers_of form))) (drop (length (verb_of form)) text) numbers len
+    → IsLongestPrefix IsEventText text event (length (verb_of form) + len)
 longest-event text form event numbers len found verb holds longest =
     let size = length (verb_of form) in
     let begins = begins-true text (verb_of form) found in
-    let front : take size text ≡ verb_of event = ap (take size) begins ∙ take_at (verb_of form) (drop size text) size refl ∙ sym verb in
+    let prefix : take size text ≡ verb_of event = ap (take size) begins ∙ take_at (verb_of form) (drop size text) size refl ∙ sym verb in
     let fits : size ≤ length text = omega (arith, ap length begins, length-append (verb_of form) (drop size text)) in
     record {
       within = omega (arith, fits, longest.within, length-drop size text);
-      front = record {
-        text = take-add size len text ∙ (λ j. front j ++ (longest.front.text ∙ ap numbers_text (sym holds)) j);
-        below = subst (λ (l : List ℕ). AreSmall l) (sym holds) longest.front.below;
+      prefix = record {
+        text = take-add size len text ∙ (λ j. prefix j ++ (longest.prefix.text ∙ ap numbers_text (sym holds)) j);
+        below = subst (λ (l : List ℕ). AreSmall l) (sym holds) longest.prefix.below;
       };
       longest = λ n w lt within is.
           let of = behind text form w n found within is in

@@ -7,7 +7,7 @@ use Rattle.std.proofs.lemmas.List.{take-append-drop, take-take, length-take-le, 
 use Rattle.std.proofs.lemmas.List.Concat.{flat_map-append}
 use Rattle.std.proofs.lemmas.List.Elements.{All-head, All-tail, All-push, All-take, All-get_or}
 use Rattle.std.specs.Fmt.{decimal}
-use Rattle.surw_base.specs.Front.{IsLongestFront, HasNoFront}
+use Rattle.surw_base.specs.Prefix.{IsLongestPrefix, HasNoPrefix}
 use Rattle.surw_base.specs.Number.{IsNumberText}
 use Rattle.event_class.specs.Event.{AreSmall, AreNumbersText, numbers_text}
 
@@ -39,27 +39,27 @@ spaces-numbers (n ∷ ns) small =
     let more = spaces-numbers ns (All-tail (λ m. m < 2 ^ 64) n ns small) in
     omega (arith, none, more, spaces-append (decimal n) (numbers_text ns))
 
--- a space inside a front is one more than those before it
+-- a space inside a prefix is one more than those before it
 spaces-inside : (text : List ℕ) (place len : ℕ) → place < len → len ≤ length text → get_or text place 0 ≡ 32
     → spaces (take place text) + 1 ≤ spaces (take len text)
 spaces-inside text place len lt within space =
-    let front = take len text in
-    let long : length front ≡ len = length-take-le len text within in
-    let cut : take place front ≡ take place text = take-take place len text (omega arith) in
-    let here : get_or front place 0 ≡ 32 = get_or-take len text place 0 lt ∙ space in
-    let rest : drop place front ≡ 32 ∷ drop (place + 1) front =
-    drop_more front place 0 (omega arith) ∙ ap (λ (b : ℕ). b ∷ drop (place + 1) front) here in
-    let whole : take place text ++ (32 ∷ drop (place + 1) front) ≡ front =
-    (λ i. sym cut i ++ sym rest i) ∙ take-append-drop place front in
-    omega (arith, ap spaces whole, spaces-append (take place text) (32 ∷ drop (place + 1) front))
+    let prefix = take len text in
+    let long : length prefix ≡ len = length-take-le len text within in
+    let cut : take place prefix ≡ take place text = take-take place len text (omega arith) in
+    let here : get_or prefix place 0 ≡ 32 = get_or-take len text place 0 lt ∙ space in
+    let rest : drop place prefix ≡ 32 ∷ drop (place + 1) prefix =
+    drop_more prefix place 0 (omega arith) ∙ ap (λ (b : ℕ). b ∷ drop (place + 1) prefix) here in
+    let whole : take place text ++ (32 ∷ drop (place + 1) prefix) ≡ prefix =
+    (λ i. sym cut i ++ sym rest i) ∙ take-append-drop place prefix in
+    omega (arith, ap spaces whole, spaces-append (take place text) (32 ∷ drop (place + 1) prefix))
 
--- what stands behind the longest front of fewer numbers: a space, the next number and then the others
+-- what stands behind the longest prefix of fewer numbers: a space, the next number and then the others
 pub record IsNext (text : List ℕ) (len n w : ℕ) (more : List ℕ) : Type 0 where
   pub space : get_or text len 0 ≡ 32
   pub number : IsNumberText (take (length (decimal w)) (drop (len + 1) text)) w
   pub ends : n ≡ len + 1 + length (decimal w) + length (numbers_text more)
 
-next-split : (text ns us : List ℕ) (w : ℕ) (more : List ℕ) (i len n : ℕ) → IsLongestFront (AreNumbersText i) text ns len → n ≤ length text
+next-split : (text ns us : List ℕ) (w : ℕ) (more : List ℕ) (i len n : ℕ) → IsLongestPrefix (AreNumbersText i) text ns len → n ≤ length text
     → length us ≡ i → AreSmall us → w < 2 ^ 64 → take n text ≡ numbers_text (us ++ w ∷ more) → IsNext text len n w more
 next-split text ns us w more i len n longest within many small below is =
     let m = length (numbers_text us) in
@@ -68,18 +68,18 @@ next-split text ns us w more i len n longest within many small below is =
     let parts : take n text ≡ numbers_text us ++ (32 ∷ rest) = is ∙ flat_map-append (λ v. 32 ∷ decimal v) us (w ∷ more) in
     let long : n ≡ m + 1 + d + length (numbers_text more) =
     omega (arith, length-take-le n text within, ap length parts, length-append (numbers_text us) (32 ∷ rest), length-append (decimal w) (numbers_text more)) in
-    let front : take m text ≡ numbers_text us =
+    let prefix : take m text ≡ numbers_text us =
     sym (take-take m n text (omega arith)) ∙ ap (take m) parts ∙ take_at (numbers_text us) (32 ∷ rest) m refl in
     let space : get_or text m 0 ≡ 32 =
     sym (get_or-take n text m 0 (omega arith)) ∙ ap (λ (l : List ℕ). get_or l m 0) parts ∙ get_or_at (numbers_text us) 32 rest 0 m refl in
     let same : m ≡ len = elim (cases_lt m len) [
       | inl less ↦
           let more_spaces = spaces-inside text m len less longest.within space in
-          let few = ap spaces front ∙ spaces-numbers us small in
-          let all = ap spaces longest.front.text ∙ spaces-numbers ns longest.front.below in
-          absurd (omega (arith, more_spaces, few, all, many, longest.front.many))
+          let few = ap spaces prefix ∙ spaces-numbers us small in
+          let all = ap spaces longest.prefix.text ∙ spaces-numbers ns longest.prefix.below in
+          absurd (omega (arith, more_spaces, few, all, many, longest.prefix.many))
       | inr le ↦ elim (cases_lt len m) [
-        | inl beyond ↦ absurd (longest.longest m us beyond (omega arith) (record { text = front; many = many; below = small }))
+        | inl beyond ↦ absurd (longest.longest m us beyond (omega arith) (record { text = prefix; many = many; below = small }))
         | inr ge ↦ omega arith
       ]
     ] in
@@ -96,8 +96,8 @@ next-split text ns us w more i len n longest within many small below is =
       ends = omega (arith, same, long);
     }
 
--- a front of more numbers goes on behind the longest front of the first ones
-pub next : (text ns ws : List ℕ) (i count len n : ℕ) → IsLongestFront (AreNumbersText i) text ns len → n ≤ length text → i < count
+-- a prefix of more numbers goes on behind the longest prefix of the first ones
+pub next : (text ns ws : List ℕ) (i count len n : ℕ) → IsLongestPrefix (AreNumbersText i) text ns len → n ≤ length text → i < count
     → AreNumbersText count (take n text) ws → IsNext text len n (get_or ws i 0) (drop (i + 1) ws)
 next text ns ws i count len n longest within lt is =
     let P : ℕ → Type 0 = λ m. m < 2 ^ 64 in
@@ -108,34 +108,34 @@ next text ns ws i count len n longest within lt is =
     (length-take-le i ws (omega arith)) (All-take P i ws is.below) (All-get_or P ws i 0 room is.below)
     (is.text ∙ ap numbers_text split)
 
--- where no space follows, no front has more numbers
-pub none-space : (text ns : List ℕ) (i count len : ℕ) → IsLongestFront (AreNumbersText i) text ns len → i < count
-    → (get_or text len 0 ≡ 32 → ⊥) → HasNoFront (AreNumbersText count) text
+-- where no space follows, no prefix has more numbers
+pub none-space : (text ns : List ℕ) (i count len : ℕ) → IsLongestPrefix (AreNumbersText i) text ns len → i < count
+    → (get_or text len 0 ≡ 32 → ⊥) → HasNoPrefix (AreNumbersText count) text
 none-space text ns i count len longest lt other n ws within is = other (next text ns ws i count len n longest within lt is).space
 
 -- nor where no number follows
-pub none-number : (text ns : List ℕ) (i count len : ℕ) → IsLongestFront (AreNumbersText i) text ns len → i < count
-    → HasNoFront IsNumberText (drop (len + 1) text) → HasNoFront (AreNumbersText count) text
+pub none-number : (text ns : List ℕ) (i count len : ℕ) → IsLongestPrefix (AreNumbersText i) text ns len → i < count
+    → HasNoPrefix IsNumberText (drop (len + 1) text) → HasNoPrefix (AreNumbersText count) text
 none-number text ns i count len longest lt none n ws within is =
     let behind = next text ns ws i count len n longest within lt is in
     none (length (decimal (get_or ws i 0))) (get_or ws i 0) (omega (arith, behind.ends, length-drop (len + 1) text)) behind.number
 
--- the longest front of numbers with the longest front behind the space is the longest with one more number
-pub one-more : (text ns : List ℕ) (i len v width : ℕ) → IsLongestFront (AreNumbersText i) text ns len → len < length text → get_or text len 0 ≡ 32
-    → IsLongestFront IsNumberText (drop (len + 1) text) v width → IsLongestFront (AreNumbersText (i + 1)) text (ns ++ v ∷ []) (len + (1 + width))
+-- the longest prefix of numbers with the longest prefix behind the space is the longest with one more number
+pub one-more : (text ns : List ℕ) (i len v width : ℕ) → IsLongestPrefix (AreNumbersText i) text ns len → len < length text → get_or text len 0 ≡ 32
+    → IsLongestPrefix IsNumberText (drop (len + 1) text) v width → IsLongestPrefix (AreNumbersText (i + 1)) text (ns ++ v ∷ []) (len + (1 + width))
 one-more text ns i len v width longest room space number =
     let rest : drop len text ≡ 32 ∷ drop (len + 1) text = drop_more text len 0 room ∙ ap (λ (b : ℕ). b ∷ drop (len + 1) text) space in
     let piece : take (1 + width) (drop len text) ≡ 32 ∷ decimal v =
     (let e : 1 + width ≡ suc width = omega arith in
-    ap (take (1 + width)) rest ∙ ap (λ (z : ℕ). take z (32 ∷ drop (len + 1) text)) e ∙ ap (λ (l : List ℕ). 32 ∷ l) number.front.digits) in
+    ap (take (1 + width)) rest ∙ ap (λ (z : ℕ). take z (32 ∷ drop (len + 1) text)) e ∙ ap (λ (l : List ℕ). 32 ∷ l) number.prefix.digits) in
     let last : numbers_text (ns ++ v ∷ []) ≡ numbers_text ns ++ (32 ∷ decimal v) =
     flat_map-append (λ (w : ℕ). 32 ∷ decimal w) ns (v ∷ []) ∙ ap (λ (l : List ℕ). numbers_text ns ++ (32 ∷ l)) (append-nil (decimal v)) in
     record {
       within = omega (arith, number.within, length-drop (len + 1) text);
-      front = record {
-        text = take-add len (1 + width) text ∙ (λ j. longest.front.text j ++ piece j) ∙ sym last;
-        many = length_push ns v ∙ omega (arith, longest.front.many);
-        below = All-push (λ (w : ℕ). w < 2 ^ 64) ns v longest.front.below number.front.below;
+      prefix = record {
+        text = take-add len (1 + width) text ∙ (λ j. longest.prefix.text j ++ piece j) ∙ sym last;
+        many = length_push ns v ∙ omega (arith, longest.prefix.many);
+        below = All-push (λ (w : ℕ). w < 2 ^ 64) ns v longest.prefix.below number.prefix.below;
       };
       longest = λ n ws lt within is.
           let behind = next text ns ws i (i + 1) len n longest within (omega arith) is in

@@ -3,26 +3,26 @@ use Rattle.std.proofs.Common.{◌≡◌, ℕ, List, length, take, ap, sym, subst
 use Rattle.std.proofs.lemmas.Bool.{cases_lt}
 use Rattle.std.proofs.lemmas.Fmt.{decimal_injective}
 use Rattle.std.proofs.lemmas.List.{take_all}
-use Rattle.surw_base.specs.Front.{IsLongestFront, HasNoFront}
+use Rattle.surw_base.specs.Prefix.{IsLongestPrefix, HasNoPrefix}
 use Rattle.surw_base.specs.Number.{IsNumberText}
 
--- a whole text is a front of itself
-whole-front : (text : List ℕ) (n : ℕ) → IsNumberText text n → IsNumberText (take (length text) text) n
-whole-front text n is = subst (λ (l : List ℕ). IsNumberText l n) (sym (take_all (length text) text (omega arith))) is
+-- a whole text is a prefix of itself
+whole-prefix : (text : List ℕ) (n : ℕ) → IsNumberText text n → IsNumberText (take (length text) text) n
+whole-prefix text n is = subst (λ (l : List ℕ). IsNumberText l n) (sym (take_all (length text) text (omega arith))) is
 
--- a text without a front that is a number is none itself
-pub none-whole : (text : List ℕ) (n : ℕ) → HasNoFront IsNumberText text → IsNumberText text n → ⊥
-none-whole text n none is = none (length text) n (omega arith) (whole-front text n is)
+-- a text without a prefix that is a number is none itself
+pub none-whole : (text : List ℕ) (n : ℕ) → HasNoPrefix IsNumberText text → IsNumberText text n → ⊥
+none-whole text n none is = none (length text) n (omega arith) (whole-prefix text n is)
 
--- nor is one that goes on behind its longest front
-pub none-behind : (text : List ℕ) (v len n : ℕ) → IsLongestFront IsNumberText text v len → (len ≡ length text → ⊥) → IsNumberText text n → ⊥
+-- nor is one that goes on behind its longest prefix
+pub none-behind : (text : List ℕ) (v len n : ℕ) → IsLongestPrefix IsNumberText text v len → (len ≡ length text → ⊥) → IsNumberText text n → ⊥
 none-behind text v len n longest other is = elim (cases_lt len (length text)) [
-  | inl less ↦ longest.longest (length text) n less (omega arith) (whole-front text n is)
+  | inl less ↦ longest.longest (length text) n less (omega arith) (whole-prefix text n is)
   | inr full ↦ other (omega (arith, longest.within))
 ]
 
 -- the whole text is the text of one number
-pub same-whole : (text : List ℕ) (v len n : ℕ) → IsLongestFront IsNumberText text v len → len ≡ length text → IsNumberText text n → v ≡ n
+pub same-whole : (text : List ℕ) (v len n : ℕ) → IsLongestPrefix IsNumberText text v len → len ≡ length text → IsNumberText text n → v ≡ n
 same-whole text v len n longest full is =
-    decimal_injective v n longest.front.below is.below
-    (sym longest.front.digits ∙ ap (λ (k : ℕ). take k text) full ∙ take_all (length text) text (omega arith) ∙ is.digits)
+    decimal_injective v n longest.prefix.below is.below
+    (sym longest.prefix.digits ∙ ap (λ (k : ℕ). take k text) full ∙ take_all (length text) text (omega arith) ∙ is.digits)

@@ -1,6 +1,6 @@
 ghost use Rattle.std.specs.Prelude.{◌≡◌, ℕ, ◌+◌, List, ◌++◌, ◌≤◌, Some, length, take, drop, IsTrue, IfSome, IfNone, OnOk, OnErr, MatchOption, nat_eq};
 ghost use Rattle.std.specs.List.{starts_with};
-ghost use Rattle.surw_base.specs.Front.{IsLongestFront, HasNoFront};
+ghost use Rattle.surw_base.specs.Prefix.{IsLongestPrefix, HasNoPrefix};
 ghost use Rattle.event_class.specs.Event.{verb_of, numbers_of, numbers_text, event_text, AreSmall, AreNumbersText, IsEventText, IsPrinted};
 
 use crate::Event;
@@ -44,19 +44,19 @@ fn text_of(event: &Event) -> ([u8; LONGEST], usize)
 fn put(text: &mut [u8], start: usize, bytes: &[u8]) -> usize
     requires { start + length bytes.now ≤ length text.old }
     ensures end { result ≡ start + length bytes.now }
-    ensures front { take result text.new ≡ take start text.old ++ bytes.now }
+    ensures prefix { take result text.new ≡ take start text.old ++ bytes.now }
 {
     let end = start + bytes.len();
     text[start..end].copy_from_slice(bytes);
     end
 }
 
-/// The longest front of a text that is an event's text: the event, and how many bytes it has. None exactly
-/// where no front is one.
+/// The longest prefix of a text that is an event's text: the event, and how many bytes it has. None exactly
+/// where no prefix is one.
 pub fn read_event(text: &[u8]) -> Option<(Event, usize)>
-    ensures front { MatchOption result
-        (HasNoFront IsEventText text.now)
-        (λ found. IsLongestFront IsEventText text.now found.0 found.1) }
+    ensures prefix { MatchOption result
+        (HasNoPrefix IsEventText text.now)
+        (λ found. IsLongestPrefix IsEventText text.now found.0 found.1) }
 
     // A printed event before the end or a byte that isn't a digit is read again.
     ensures again { (event : Event) (tail : List ℕ) → IsPrinted text.now event tail →
@@ -94,8 +94,8 @@ fn form_of(text: &[u8]) -> Option<Event>
 fn read_numbers(text: &[u8], count: usize) -> Option<([u64; 3], usize)>
     requires { count ≤ 3 }
     ensures { MatchOption result
-        (HasNoFront (AreNumbersText count) text.now)
-        (λ found. IsLongestFront (AreNumbersText count) text.now (take count found.0) found.1) }
+        (HasNoPrefix (AreNumbersText count) text.now)
+        (λ found. IsLongestPrefix (AreNumbersText count) text.now (take count found.0) found.1) }
 {
     let mut numbers = [0; 3];
     let mut len = 0;

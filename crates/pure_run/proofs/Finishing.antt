@@ -19,14 +19,14 @@ use Rattle.run_rules.specs.Choice.{choice, other_asked, selected_asked}
 use Rattle.run_rules.specs.Failed.{failed_at, is_ended}
 use Rattle.run_rules.specs.Journal.{world_after}
 use Rattle.run_rules.specs.Position.{Position, earlier, world_at}
-use Rattle.run_rules.specs.Run.{Ran, bent_at, drawn, is_drawn}
+use Rattle.run_rules.specs.Run.{Outcome, bent_at, drawn, is_drawn}
 use Rattle.run_rules.specs.Setup.{Setup}
 use Rattle.run_rules.specs.Verdict.{verdict_at}
 use Rattle.pure_run.specs.declared.next.Next.{Next}
 use Rattle.pure_run.specs.declared.next.Next.TheVariants.{Due, Stopped}
 use Rattle.pure_run.specs.declared.word.Word.{Word}
 use Rattle.pure_run.specs.Core.{is_due, last_word, position_in}
-use Rattle.pure_run.specs.Finished.{ran_at}
+use Rattle.pure_run.specs.Finished.{outcome_at}
 use Rattle.pure_run.specs.Kept.{IsRunning, drawn_by, failed_so_far, next_by}
 use Rattle.pure_run.specs.Opened.{OpenedWith}
 use Rattle.pure_run.specs.Run.{at_end, place_at_end}
@@ -95,11 +95,11 @@ module _ {S O : Type 0} (draws_s : Ghosts S) (draws_o : Ghosts O) (bent_s : S �
       ∙ ap (λ n. min (n + bent_o (after_bounds draws_o opened.other (other_asked setup (drawn setup x)))) max_word) (sym (from_s (selected_asked setup (drawn setup x))))
       ∙ ap (λ n. min (setup.selected.bent (selected_asked setup (drawn setup x)) + n) max_word) (sym (from_o (other_asked setup (drawn setup x))))
 
-  pub ran-finished : (ran : Ran) (last : List (Option Event)) (bent : ℕ) (selection : List Pickable) (monitors : List Monitor)
-      → ran ≡ record { journal = journal; world = world; verdict = verdict; words = last; bent = bent; selection = selection; monitors = monitors; failed = at_end world (length journal) verdict failed monitors }
+  pub outcome-finished : (outcome : Outcome) (last : List (Option Event)) (bent : ℕ) (selection : List Pickable) (monitors : List Monitor)
+      → outcome ≡ record { journal = journal; world = world; verdict = verdict; words = last; bent = bent; selection = selection; monitors = monitors; failed = at_end world (length journal) verdict failed monitors }
       → last ≡ map last_word words → bent ≡ min (bent_s selected + bent_o other) max_word → selection ≡ setup.selection → monitors ≡ setup.monitors
-      → ran ≡ ran_at setup x verdict
-  ran-finished ran last bent selection monitors is last_is bent_was selection_is monitors_is =
+      → outcome ≡ outcome_at setup x verdict
+  outcome-finished outcome last bent selection monitors is last_is bent_was selection_is monitors_is =
       let places : List (Option ℕ) = map (failed_at (new_world setup.size) journal verdict) setup.monitors in
       is
       ∙ ap (λ w. record { journal = journal; world = w; verdict = verdict; words = last; bent = bent; selection = selection; monitors = monitors; failed = at_end w (length journal) verdict failed monitors }) running.world

@@ -12,7 +12,7 @@ use Rattle.run_rules.specs.Position.{Position, earlier, position_at, world_at}
 use Rattle.run_rules.specs.Run.{GoesOnWith}
 use Rattle.run_rules.specs.Setup.{Setup}
 use Rattle.run_rules.specs.Verdict.{verdict_at}
-use Rattle.run_rules.proofs.Fronts.{more-item}
+use Rattle.run_rules.proofs.Prefixes.{more-item}
 use Rattle.run_rules.proofs.Positions.{earlier-more, position-again, position-here}
 use Rattle.pure_run.specs.declared.word.Word.{Word}
 use Rattle.pure_run.specs.declared.word.Word.TheVariants.{Due, Said}

@@ -19,12 +19,12 @@ use Rattle.run_rules.specs.Run.{GoesOn, IsRun}
 use Rattle.run_rules.specs.Setup.{Script, Setup}
 use Rattle.run_rules.specs.Told.{replies_told}
 use Rattle.run_rules.specs.Verdict.{verdict_at}
-use Rattle.run_rules.proofs.Fronts.{each-none}
+use Rattle.run_rules.proofs.Prefixes.{each-none}
 use Rattle.run_rules.proofs.Verdicts.{limit-none, refused-none, verdict-none}
 use Rattle.pure_run.specs.declared.word.Word.{Word}
 use Rattle.pure_run.specs.declared.word.Word.TheVariants.{Due, Said}
 use Rattle.pure_run.specs.Core.{CoreState, granted_of, is_due, last_word, position, thread_of, verdict_of}
-use Rattle.pure_run.specs.Finished.{ran_at}
+use Rattle.pure_run.specs.Finished.{outcome_at}
 use Rattle.pure_run.specs.Inline.{IsInline, said_by, told_routines}
 use Rattle.pure_run.specs.Kept.{IsKept}
 use Rattle.pure_run.specs.Opened.{opened_with}
@@ -111,7 +111,7 @@ module _ {R S O : Type 0} (announced : R → Option Event) (after : R → ℕ �
   -- the end
   pub inline-run : (core : CoreState S O) (routines : List R) (verdict : Verdict) → IsInline announced after plan selected other core routines
       → IsKept script.setup core.journal core.words → verdict_of script.setup core ≡ Some verdict
-      → IsRun script (ran_at script.setup (position core) verdict)
+      → IsRun script (outcome_at script.setup (position core) verdict)
   unfolding position_of
   inline-run core routines verdict inline kept is =
       let said : list_any is_due core.words ≡ false = ap (list_any is_due) inline.said ∙ none-due announced routines in
@@ -120,7 +120,7 @@ module _ {R S O : Type 0} (announced : R → Option Event) (after : R → ℕ �
       let words : (position core).words ≡ (position_of script core.journal).words =
       ap (λ ws. map last_word ws) inline.said ∙ words-said announced after plan.routines.items core.journal routines inline.told in
       let place : position core ≡ position_of script core.journal = ap (λ ws. record { journal = core.journal; words = ws }) words in
-      subst (λ x. IsRun script (ran_at script.setup x verdict)) (sym place)
+      subst (λ x. IsRun script (outcome_at script.setup x verdict)) (sym place)
       (record {
         run = record {
           legal = inline.legal;

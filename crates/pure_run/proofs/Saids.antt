@@ -8,7 +8,7 @@ use Rattle.run_rules.specs.declared.entry.Entry.{Entry}
 use Rattle.run_rules.specs.Position.{earlier, position_at}
 use Rattle.run_rules.specs.Run.{GoesOnWith}
 use Rattle.run_rules.specs.Setup.{Setup}
-use Rattle.run_rules.proofs.Fronts.{next-at}
+use Rattle.run_rules.proofs.Prefixes.{next-at}
 use Rattle.run_rules.proofs.Positions.{map-range-same, position-again}
 use Rattle.pure_run.specs.declared.word.Word.{Word}
 use Rattle.pure_run.specs.declared.word.Word.TheVariants.{Due, Said}
@@ -17,15 +17,15 @@ use Rattle.pure_run.specs.Kept.{IsKept, IsKeptEntry}
 use Rattle.pure_run.proofs.Tests.{set-twice}
 
 -- a position before the last entry doesn't depend on the word of that entry's thread
-at-front : (front : List Entry) (entry : Entry) (words : List (Option Event)) (thread : ℕ) (word : Option Event) (k : ℕ)
-    → thread ≡ entry.thread → k ≤ length front
-    → position_at (record { journal = front ++ entry ∷ []; words = set words thread word }) k ≡ position_at (record { journal = front ++ entry ∷ []; words = words }) k
-at-front front entry words thread word k same within =
+at-prefix : (prefix : List Entry) (entry : Entry) (words : List (Option Event)) (thread : ℕ) (word : Option Event) (k : ℕ)
+    → thread ≡ entry.thread → k ≤ length prefix
+    → position_at (record { journal = prefix ++ entry ∷ []; words = set words thread word }) k ≡ position_at (record { journal = prefix ++ entry ∷ []; words = words }) k
+at-prefix prefix entry words thread word k same within =
     let before : List (Option Event) = set words entry.thread (Some entry.event) in
     let twice : set (set words thread word) entry.thread (Some entry.event) ≡ before =
     ap (λ t. set (set words t word) entry.thread (Some entry.event)) same ∙ set-twice words entry.thread word (Some entry.event) in
-    position-again front entry before (set words thread word) k twice within
-    ∙ sym (position-again front entry before words k refl within)
+    position-again prefix entry before (set words thread word) k twice within
+    ∙ sym (position-again prefix entry before words k refl within)
 
 pub position-said : (journal : List Entry) (words : List (Option Event)) (thread : ℕ) (word : Option Event)
     → ((entry : Entry) → slice_get journal (length journal - 1) ≡ Some entry → thread ≡ entry.thread)
@@ -36,9 +36,9 @@ position-said journal words thread word last k within =
     let step = next-at journal n (omega (arith, within)) in
     let e : n + 1 ≡ length journal = omega (arith, within) in
     let whole : take n journal ++ step.item ∷ [] ≡ journal = sym step.cut ∙ ap (λ m. take m journal) e ∙ take_all (length journal) journal (omega arith) in
-    let front : k ≤ length (take n journal) = omega (arith, within, length-take-le n journal (omega arith)) in
+    let prefix : k ≤ length (take n journal) = omega (arith, within, length-take-le n journal (omega arith)) in
     subst (λ entries. position_at (record { journal = entries; words = set words thread word }) k ≡ position_at (record { journal = entries; words = words }) k)
-    whole (at-front (take n journal) step.item words thread word k (last step.item step.there) front)
+    whole (at-prefix (take n journal) step.item words thread word k (last step.item step.there) prefix)
 
 -- the word of no other thread becomes due
 due-other : (words : List Word) (thread : ℕ) (event : Option Event) (other : ℕ) → slice_get (set words thread (Said event)) other ≡ Some Due → slice_get words other ≡ Some Due

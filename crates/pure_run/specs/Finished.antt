@@ -4,12 +4,12 @@ use Rattle.test_world.specs.World.{new_world}
 use Rattle.run_rules.specs.declared.verdict.Verdict.{Verdict}
 use Rattle.run_rules.specs.Failed.{failed_at}
 use Rattle.run_rules.specs.Position.{Position, world_at}
-use Rattle.run_rules.specs.Run.{Ran, bent_at}
+use Rattle.run_rules.specs.Run.{Outcome, bent_at}
 use Rattle.run_rules.specs.Setup.{Setup}
 
 -- the run that stops at a position with this verdict
-abbrev pub ran_at : Setup → Position → Verdict → Ran
-ran_at setup x verdict = record {
+abbrev pub outcome_at : Setup → Position → Verdict → Outcome
+outcome_at setup x verdict = record {
   journal = x.journal;
   world = world_at setup x;
   verdict = verdict;

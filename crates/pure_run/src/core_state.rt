@@ -15,7 +15,7 @@ ghost use Rattle.pure_run.specs.Core.{opened_core, after_word, after_entry, posi
 ghost use Rattle.pure_run.specs.Kept.{IsKept};
 ghost use Rattle.pure_run.specs.Opened.{opened_with, setup_in, IsOpenedAs};
 ghost use Rattle.pure_run.specs.Watched.{failed_in};
-ghost use Rattle.pure_run.specs.Finished.{ran_at};
+ghost use Rattle.pure_run.specs.Finished.{outcome_at};
 
 use crate::deciding::decided;
 use crate::watching::{first_failed, look_after, seen, watch};
@@ -266,7 +266,7 @@ impl<S: Draws, O: Draws> Core<S, O> {
     /// The run, where there is a verdict.
     pub fn finish(self) -> Run
         requires { IsSome (verdict_of (setup_by (source_of S.Draws) (source_of O.Draws) self) self) }
-        ensures run { (verdict : Verdict) → verdict_of (setup_by (source_of S.Draws) (source_of O.Draws) self) self ≡ Some verdict → result ≡ ran_at (setup_by (source_of S.Draws) (source_of O.Draws) self) (position self) verdict }
+        ensures run { (verdict : Verdict) → verdict_of (setup_by (source_of S.Draws) (source_of O.Draws) self) self ≡ Some verdict → result ≡ outcome_at (setup_by (source_of S.Draws) (source_of O.Draws) self) (position self) verdict }
         ensures kept { IsKept (setup_by (source_of S.Draws) (source_of O.Draws) self) self.journal self.words }
     {
         let Core {

@@ -28,10 +28,10 @@ pub struct Run {
 }
 
 impl Model for Run {
-    ghost use Rattle.run_rules.specs.Run.{Ran};
+    ghost use Rattle.run_rules.specs.Run.{Outcome};
     ghost use Rattle.pure_run.specs.Run.{IsRunInside};
 
-    ghost Value = { Ran };
+    ghost Value = { Outcome };
 
     ghost view = { λ r. record { journal = r.journal.items; world = r.world; verdict = r.verdict; words = r.words.items; bent = r.bent; selection = r.selection; monitors = r.monitors.items; failed = r.failed.items } };
 

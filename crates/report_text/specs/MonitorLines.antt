@@ -20,14 +20,14 @@ is_judged verdict (CellEnd cell value) = is_ended verdict
 is_judged verdict monitor = true
 
 -- whether it held, or the number of entries after which it failed
-abbrev pub outcome_text : Option ℕ → List ℕ
-outcome_text None = codes "held"
-outcome_text (Some place) = list_text (codes "failed after") (place ∷ [])
+abbrev pub judged_text : Option ℕ → List ℕ
+judged_text None = codes "held"
+judged_text (Some place) = list_text (codes "failed after") (place ∷ [])
 
 -- the line of a monitor
 abbrev pub monitor_line : Verdict → Monitor → Option ℕ → List ℕ
 monitor_line verdict monitor failed =
-    line (codes "monitor " ++ monitor_text monitor ++ codes " " ++ (if is_judged verdict monitor then outcome_text failed else codes "unjudged"))
+    line (codes "monitor " ++ monitor_text monitor ++ codes " " ++ (if is_judged verdict monitor then judged_text failed else codes "unjudged"))
 
 -- the lines of the monitors in their order, each with its place
 unfoldable pub monitor_lines : Verdict → List Monitor → List (Option ℕ) → List ℕ

@@ -1,5 +1,5 @@
 ghost use Rattle.std.specs.Prelude.{◌≡◌, ◌++◌, OnOk};
-ghost use Rattle.report_text.specs.MonitorLines.{monitor_text, is_judged, outcome_text, monitor_line, monitor_lines};
+ghost use Rattle.report_text.specs.MonitorLines.{monitor_text, is_judged, judged_text, monitor_line, monitor_lines};
 
 use crate::lists::push_list;
 use pure_run::Run;
@@ -32,7 +32,7 @@ fn push_monitor_line(
     push_monitor(text, monitor)?;
     text.push(b' ')?;
     if is_judged(verdict, monitor) {
-        push_outcome(text, failed)?;
+        push_judged(text, failed)?;
     } else {
         text.extend_from_slice(b"unjudged")?;
     }
@@ -65,8 +65,8 @@ fn push_monitor(text: &mut Vec<u8>, monitor: &Monitor) -> Result<(), OutOfMemory
 }
 
 // Appends whether a monitor held.
-fn push_outcome(text: &mut Vec<u8>, failed: Option<u32>) -> Result<(), OutOfMemory>
-    ensures { OnOk result (text.new.items ≡ text.old.items ++ outcome_text failed) }
+fn push_judged(text: &mut Vec<u8>, failed: Option<u32>) -> Result<(), OutOfMemory>
+    ensures { OnOk result (text.new.items ≡ text.old.items ++ judged_text failed) }
 {
     match failed {
         Some(place) => push_list(text, b"failed after", &[u64::from(place)]),

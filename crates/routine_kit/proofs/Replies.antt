@@ -18,7 +18,7 @@ arrows (If ∷ ws) = arrows ws
 arrows (Equal ∷ ws) = arrows ws
 arrows (Unequal ∷ ws) = arrows ws
 
-arrow-in : (front : List Word) (reg : ℕ) → arrows (front ++ into_words (Some reg)) ≡ arrows front + 1
+arrow-in : (prefix : List Word) (reg : ℕ) → arrows (prefix ++ into_words (Some reg)) ≡ arrows prefix + 1
 arrow-in [] reg = refl
 arrow-in (Arrow ∷ ws) reg = omega (arith, arrow-in ws reg)
 arrow-in (Value x ∷ ws) reg = arrow-in ws reg
@@ -31,17 +31,17 @@ no-arrow [] = refl
 no-arrow (x ∷ xs) = no-arrow xs
 
 -- words with an arrow at their end have one reading
-pub reply-only : (words front : List Word) (reg : ℕ) (operands : List Operand) (into : Option ℕ) → words ≡ front ++ into_words (Some reg)
-    → words ≡ map Value operands ++ into_words into → (front ≡ map Value operands) × (Some reg ≡ into)
-reply-only words front reg operands None here is =
-    absurd (omega (arith, ap arrows here, arrow-in front reg, ap arrows is, no-arrow operands))
-reply-only words front reg operands (Some other) here is =
-    let both : front ++ into_words (Some reg) ≡ map Value operands ++ into_words (Some other) = sym here ∙ is in
-    let long : length front ≡ length (map Value operands) =
-    omega (arith, ap length both, length-append front (into_words (Some reg)), length-append (map Value operands) (into_words (Some other))) in
+pub reply-only : (words prefix : List Word) (reg : ℕ) (operands : List Operand) (into : Option ℕ) → words ≡ prefix ++ into_words (Some reg)
+    → words ≡ map Value operands ++ into_words into → (prefix ≡ map Value operands) × (Some reg ≡ into)
+reply-only words prefix reg operands None here is =
+    absurd (omega (arith, ap arrows here, arrow-in prefix reg, ap arrows is, no-arrow operands))
+reply-only words prefix reg operands (Some other) here is =
+    let both : prefix ++ into_words (Some reg) ≡ map Value operands ++ into_words (Some other) = sym here ∙ is in
+    let long : length prefix ≡ length (map Value operands) =
+    omega (arith, ap length both, length-append prefix (into_words (Some reg)), length-append (map Value operands) (into_words (Some other))) in
     let rest : into_words (Some reg) ≡ into_words (Some other) =
-    sym (drop_at front (into_words (Some reg)) (length front) refl) ∙ ap (drop (length front)) both ∙ drop_at (map Value operands) (into_words (Some other)) (length front) (sym long) in (
-      sym (take_at front (into_words (Some reg)) (length front) refl) ∙ ap (take (length front)) both ∙ take_at (map Value operands) (into_words (Some other)) (length front) (sym long),
+    sym (drop_at prefix (into_words (Some reg)) (length prefix) refl) ∙ ap (drop (length prefix)) both ∙ drop_at (map Value operands) (into_words (Some other)) (length prefix) (sym long) in (
+      sym (take_at prefix (into_words (Some reg)) (length prefix) refl) ∙ ap (take (length prefix)) both ∙ take_at (map Value operands) (into_words (Some other)) (length prefix) (sym long),
       (cc),
     )
 

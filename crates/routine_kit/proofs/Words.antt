@@ -64,17 +64,17 @@ no-space Unequal small = All-from_recursion (λ b. (b == 32) ≡ false) (codes "
 no-space Arrow small = All-from_recursion (λ b. (b == 32) ≡ false) (codes "->") (refl, (refl, tt))
 
 -- what has no space ends where the next word begins, or at the end
-pub cut : (front : List ℕ) (words : List Word) → NoSpace front → position_or_len (λ b. b == 32) (front ++ words_text words) ≡ length front
-cut front [] none = position_or_len_is (λ b. b == 32) (front ++ []) (length front) 0
-    (omega (arith, length-append front []))
-    (λ k lt. ap (λ b. b == 32) (get_or_append_left front [] 0 k lt) ∙ none k 0 lt)
-    (λ lt. absurd (omega (arith, length-append front [])))
-cut front (word ∷ words) none =
+pub cut : (prefix : List ℕ) (words : List Word) → NoSpace prefix → position_or_len (λ b. b == 32) (prefix ++ words_text words) ≡ length prefix
+cut prefix [] none = position_or_len_is (λ b. b == 32) (prefix ++ []) (length prefix) 0
+    (omega (arith, length-append prefix []))
+    (λ k lt. ap (λ b. b == 32) (get_or_append_left prefix [] 0 k lt) ∙ none k 0 lt)
+    (λ lt. absurd (omega (arith, length-append prefix [])))
+cut prefix (word ∷ words) none =
     let rest = word_text word ++ words_text words in
-    position_or_len_is (λ b. b == 32) (front ++ (32 ∷ rest)) (length front) 0
-    (omega (arith, length-append front (32 ∷ rest)))
-    (λ k lt. ap (λ b. b == 32) (get_or_append_left front (32 ∷ rest) 0 k lt) ∙ none k 0 lt)
-    (λ lt. ap (λ b. b == 32) (get_or_at front 32 rest 0 (length front) refl))
+    position_or_len_is (λ b. b == 32) (prefix ++ (32 ∷ rest)) (length prefix) 0
+    (omega (arith, length-append prefix (32 ∷ rest)))
+    (λ k lt. ap (λ b. b == 32) (get_or_append_left prefix (32 ∷ rest) 0 k lt) ∙ none k 0 lt)
+    (λ lt. ap (λ b. b == 32) (get_or_at prefix 32 rest 0 (length prefix) refl))
 
 -- the first word of a text of words, and what stands behind it
 pub first-word : (rest after : List ℕ) (n : ℕ) (w : Word) (ws : List Word) → after ≡ drop 1 rest → n ≡ position_or_len (λ b. b == 32) after
@@ -89,28 +89,28 @@ first-word rest after n w ws one len is fits =
 -- where words are left, the next is one
 pub none-read : (more : List Word) (rest after word : List ℕ) (n : ℕ) → 0 < length rest → after ≡ drop 1 rest → n ≡ position_or_len (λ b. b == 32) after
     → word ≡ take n after → rest ≡ words_text more → All IsWord more → ((w : Word) → word ≡ word_text w → IsWord w → ⊥) → ⊥
-none-read [] rest after word n some one len front is all none = omega (arith, ap length is)
-none-read (w ∷ ws) rest after word n some one len front is all none =
+none-read [] rest after word n some one len prefix is all none = omega (arith, ap length is)
+none-read (w ∷ ws) rest after word n some one len prefix is all none =
     let fits = All-head IsWord w ws all in
-    none w (front ∙ (first-word rest after n w ws one len is fits).0) fits
+    none w (prefix ∙ (first-word rest after n w ws one len is fits).0) fits
 
 -- and it is the one that was read
 pub one-read : (more : List Word) (rest after word behind : List ℕ) (n : ℕ) (v : Word) → 0 < length rest → after ≡ drop 1 rest → n ≡ position_or_len (λ b. b == 32) after
     → word ≡ take n after → behind ≡ drop n after → word ≡ word_text v → IsWord v → rest ≡ words_text more → All IsWord more
     → (ws : List Word) × (more ≡ v ∷ ws) × (behind ≡ words_text ws) × All IsWord ws
-one-read [] rest after word behind n v some one len front back read good is all = absurd (omega (arith, ap length is))
-one-read (w ∷ ws) rest after word behind n v some one len front back read good is all =
+one-read [] rest after word behind n v some one len prefix back read good is all = absurd (omega (arith, ap length is))
+one-read (w ∷ ws) rest after word behind n v some one len prefix back read good is all =
     let fits = All-head IsWord w ws all in
     let both = first-word rest after n w ws one len is fits in
-    let same : w ≡ v = same-word w v (sym both.0 ∙ sym front ∙ read) fits good in
+    let same : w ≡ v = same-word w v (sym both.0 ∙ sym prefix ∙ read) fits good in
     (ws, ap (λ (x : Word). x ∷ ws) same, back ∙ both.1, All-tail IsWord w ws all)
 
 -- a word more of the text
 pub text-more : (text : List ℕ) (words : List Word) (rest after word behind : List ℕ) (n : ℕ) (v : Word) → text ≡ words_text words ++ rest → get_or rest 0 0 ≡ 32
     → 0 < length rest → after ≡ drop 1 rest → word ≡ take n after → behind ≡ drop n after → word ≡ word_text v → text ≡ words_text (words ++ v ∷ []) ++ behind
-text-more text words [] after word behind n v is space some one front back read = absurd (omega arith)
-text-more text words (b ∷ bs) after word behind n v is space some one front back read =
-    let whole : bs ≡ word_text v ++ behind = sym one ∙ sym (take-append-drop n after) ∙ (λ i. (sym front ∙ read) i ++ sym back i) in
+text-more text words [] after word behind n v is space some one prefix back read = absurd (omega arith)
+text-more text words (b ∷ bs) after word behind n v is space some one prefix back read =
+    let whole : bs ≡ word_text v ++ behind = sym one ∙ sym (take-append-drop n after) ∙ (λ i. (sym prefix ∙ read) i ++ sym back i) in
     let split : words_text (words ++ v ∷ []) ≡ words_text words ++ (32 ∷ (word_text v ++ [])) = flat_map-append (λ w. 32 ∷ word_text w) words (v ∷ []) in
     is ∙ (λ i. words_text words ++ (space i ∷ whole i))
     ∙ sym (append_assoc (words_text words) (32 ∷ word_text v) behind)

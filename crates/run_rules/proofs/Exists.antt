@@ -13,24 +13,24 @@ use Rattle.run_rules.specs.Setup.{Script, IsValid}
 use Rattle.seed_draws.specs.Answers.{IsSource}
 use Rattle.run_rules.specs.Verdict.{verdict_at}
 use Rattle.run_rules.proofs.Choices.{HasChoice, has-choice}
-use Rattle.run_rules.proofs.Fronts.{AtEach, each-none, each-more}
-use Rattle.run_rules.proofs.Goings.{GoesOnAfter, fronts-going, goes-so-far}
+use Rattle.run_rules.proofs.Prefixes.{AtEach, each-none, each-more}
+use Rattle.run_rules.proofs.Goings.{GoesOnAfter, prefixes-going, goes-so-far}
 use Rattle.run_rules.proofs.Scripts.{legal-more, word-said}
 use Rattle.run_rules.proofs.Verdicts.{verdict-none, limit-none}
 
 -- a journal that is legal and goes on up to its end
 pub record GoesUpTo (script : Script) (journal : List Entry) : Type 0 where
   pub legal : IsLegal script journal
-  pub fronts : AtEach (GoesOnAfter script) journal
+  pub prefixes : AtEach (GoesOnAfter script) journal
 
 pub goes-none : (script : Script) → GoesUpTo script []
-goes-none script = record { legal = each-none (IsLegalNext script); fronts = each-none (GoesOnAfter script) }
+goes-none script = record { legal = each-none (IsLegalNext script); prefixes = each-none (GoesOnAfter script) }
 
 pub goes-more : (script : Script) (journal : List Entry) (entry : Entry) → GoesUpTo script journal → IsLegalNext script journal entry
     → GoesOnAfter script journal entry → GoesUpTo script (journal ++ entry ∷ [])
 goes-more script journal entry goes next going = record {
   legal = legal-more script journal entry goes.legal next;
-  fronts = each-more (GoesOnAfter script) journal entry goes.fronts going;
+  prefixes = each-more (GoesOnAfter script) journal entry goes.prefixes going;
 }
 
 -- the entry with which the run goes on
@@ -47,7 +47,7 @@ has-next script journal valid selected other goes none =
     let world : WorldState = world_after (new_world script.setup.size) journal in
     let choice : HasChoice script.setup x =
     has-choice script.setup x valid selected other
-    (goes-so-far script journal (fronts-going script journal goes.legal goes.fronts)) none in
+    (goes-so-far script journal (prefixes-going script journal goes.legal goes.prefixes)) none in
     let event : Event = choice.word.event in
     record {
       entry = record { thread = choice.thread; event = event; reply = reply world choice.thread event; forced = choice.forced };
@@ -68,7 +68,7 @@ pub record HasRun (script : Script) : Type 0 where
 run-here : (script : Script) (journal : List Entry) → GoesUpTo script journal → IsSome (verdict_at script.setup (position_of script journal)) → HasRun script
 run-here script journal goes some = record {
   journal = journal;
-  is = record { legal = goes.legal; going = fronts-going script journal goes.legal goes.fronts; stops = some };
+  is = record { legal = goes.legal; going = prefixes-going script journal goes.legal goes.prefixes; stops = some };
 }
 
 cases-option : {A : Type 0} (o : Option A) → IsSome o ⊎ (o ≡ None)

@@ -1,4 +1,4 @@
--- Journals that go on, by the positions after their fronts.
+-- Journals that go on, by the positions after their prefixes.
 use Rattle.std.proofs.Common.{List, sym, subst, arith}
 use Rattle.std.proofs.lemmas.Option.{slice_get_within}
 use Rattle.run_rules.specs.declared.entry.Entry.{Entry}
@@ -7,24 +7,24 @@ use Rattle.run_rules.specs.Position.{position_of}
 use Rattle.run_rules.specs.Run.{GoesOn, GoesOnWith}
 use Rattle.run_rules.specs.Setup.{Script}
 use Rattle.run_rules.proofs.Choices.{GoesSoFar}
-use Rattle.run_rules.proofs.Fronts.{AtEach, IsNext, next-at}
+use Rattle.run_rules.proofs.Prefixes.{AtEach, IsNext, next-at}
 use Rattle.run_rules.proofs.Scripts.{script-again}
 
--- after a front of the journal the run goes on with the entry that follows
+-- after a prefix of the journal the run goes on with the entry that follows
 abbrev pub GoesOnAfter : Script → List Entry → Entry → Type 0
-GoesOnAfter script front entry = GoesOnWith script.setup (position_of script front) entry
+GoesOnAfter script prefix entry = GoesOnWith script.setup (position_of script prefix) entry
 
-pub going-fronts : (script : Script) (journal : List Entry) → IsLegal script journal → GoesOn script.setup (position_of script journal)
+pub going-prefixes : (script : Script) (journal : List Entry) → IsLegal script journal → GoesOn script.setup (position_of script journal)
     → AtEach (GoesOnAfter script) journal
 unfolding position_of
-going-fronts script journal legal going k entry at =
+going-prefixes script journal legal going k entry at =
     subst (λ x. GoesOnWith script.setup x entry)
     (script-again script journal k legal (omega (arith, slice_get_within journal k entry at))) (going k entry at)
 
-pub fronts-going : (script : Script) (journal : List Entry) → IsLegal script journal → AtEach (GoesOnAfter script) journal
+pub prefixes-going : (script : Script) (journal : List Entry) → IsLegal script journal → AtEach (GoesOnAfter script) journal
     → GoesOn script.setup (position_of script journal)
 unfolding position_of
-fronts-going script journal legal going k entry at =
+prefixes-going script journal legal going k entry at =
     subst (λ x. GoesOnWith script.setup x entry)
     (sym (script-again script journal k legal (omega (arith, slice_get_within journal k entry at)))) (going k entry at)
 

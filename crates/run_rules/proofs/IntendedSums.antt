@@ -9,14 +9,14 @@ use Rattle.std.specs.List.{filter, range_with_len}
 use Rattle.event_class.specs.declared.pickable.Pickable.{Pickable}
 use Rattle.run_rules.specs.declared.entry.Entry.{Entry}
 use Rattle.run_rules.specs.Asked.{asked_over}
-use Rattle.run_rules.specs.Intention.{ends_intention, ending_fronts, intention_lefts, intended_after, last_left, picked_from}
+use Rattle.run_rules.specs.Intention.{ends_intention, ending_prefixes, intention_lefts, intended_after, last_left, picked_from}
 use Rattle.run_rules.specs.Made.{numbers_left}
 use Rattle.run_rules.specs.Position.{Position, earlier, position_at}
 use Rattle.run_rules.specs.Setup.{Setup}
 use Rattle.run_rules.specs.SurwChoice.{is_due_after, is_fresh, surw_selected_at}
 use Rattle.run_rules.proofs.Asking.{flat_map-more}
 use Rattle.run_rules.proofs.Intentions.{last-pushed, lefts-kept, lefts-more}
-use Rattle.run_rules.proofs.Meeting.{by-fronts, fresh-more, left-less, left-within}
+use Rattle.run_rules.proofs.Meeting.{by-prefixes, fresh-more, left-less, left-within}
 use Rattle.run_rules.proofs.Positions.{map-range-same}
 
 -- ---- the sums that are positive
@@ -39,7 +39,7 @@ module _ (selection : List Pickable) (counts : List ℕ) where
   ArePositive journal = 0 < sum (last_left (lefts_of journal)) → positive_sums (lefts_of journal) ≡ map sum (lefts_of journal)
 
   positive-none : ArePositive []
-  unfolding ArePositive intention_lefts ending_fronts
+  unfolding ArePositive intention_lefts ending_prefixes
   positive-none = λ some. ap (λ (b : Bool). cond b (sum (left_of []) ∷ []) []) (lt-ltb 0 (sum (left_of [])) some)
 
   positive-next : (journal : List Entry) (entry : Entry) → ArePositive journal → ArePositive (journal ++ entry ∷ [])
@@ -64,7 +64,7 @@ module _ (selection : List Pickable) (counts : List ℕ) where
 
   pub all-positive : (journal : List Entry) → 0 < sum (last_left (lefts_of journal)) → positive_sums (lefts_of journal) ≡ map sum (lefts_of journal)
   unfolding ArePositive
-  all-positive journal = by-fronts ArePositive positive-none positive-next journal
+  all-positive journal = by-prefixes ArePositive positive-none positive-next journal
 
   -- ---- what was asked
 
@@ -87,45 +87,45 @@ module _ (selection : List Pickable) (counts : List ℕ) where
             (sym (fresh-more selection journal entry false no_end))
       ]
 
-  -- what is asked after each of so many fronts
-  abbrev asked_fronts : List Entry → ℕ → List ℕ
-  asked_fronts journal n = flat_map ask (map (λ k. take k journal) (range_with_len 0 n))
+  -- what is asked after each of so many prefixes
+  abbrev asked_prefixes : List Entry → ℕ → List ℕ
+  asked_prefixes journal n = flat_map ask (map (λ k. take k journal) (range_with_len 0 n))
 
-  fronts-of-more : (journal : List Entry) (entry : Entry)
+  prefixes-of-more : (journal : List Entry) (entry : Entry)
       → map (λ k. take k (journal ++ entry ∷ [])) (range_with_len 0 (length (journal ++ entry ∷ []) + 1))
       ≡ map (λ k. take k journal) (range_with_len 0 (length journal + 1)) ++ (journal ++ entry ∷ []) ∷ []
-  fronts-of-more journal entry =
+  prefixes-of-more journal entry =
       let longer : List Entry = journal ++ entry ∷ [] in
       map-range_with_len_more (λ k. take k longer) 0 (length longer) (length longer) (omega arith)
-      ∙ ap (λ front. map (λ k. take k longer) (range_with_len 0 (length longer)) ++ front ∷ []) (take-length longer)
+      ∙ ap (λ prefix. map (λ k. take k longer) (range_with_len 0 (length longer)) ++ prefix ∷ []) (take-length longer)
       ∙ ap (λ n. map (λ k. take k longer) (range_with_len 0 n) ++ longer ∷ []) (length-append journal (entry ∷ []))
-      ∙ ap (λ fronts. fronts ++ longer ∷ [])
+      ∙ ap (λ prefixes. prefixes ++ longer ∷ [])
       (map-range-same (λ k. take k longer) (λ k. take k journal) (length journal + 1) (λ k below. take-append-le k journal (entry ∷ []) (omega (arith, below))))
 
   AreAsked : List Entry → Type 0
-  AreAsked journal = positive_sums (lefts_of journal) ≡ asked_fronts journal (length journal + 1)
+  AreAsked journal = positive_sums (lefts_of journal) ≡ asked_prefixes journal (length journal + 1)
 
   sums-none : AreAsked []
-  unfolding AreAsked intention_lefts ending_fronts is_due_after
+  unfolding AreAsked intention_lefts ending_prefixes is_due_after
   sums-none = sym (append-nil (cond (ltb 0 (sum (left_of []))) (sum (left_of []) ∷ []) []))
 
   sums-next : (journal : List Entry) (entry : Entry) → AreAsked journal → AreAsked (journal ++ entry ∷ [])
   unfolding AreAsked
   sums-next journal entry are =
-      let fronts : List (List Entry) = map (λ k. take k journal) (range_with_len 0 (length journal + 1)) in
+      let prefixes : List (List Entry) = map (λ k. take k journal) (range_with_len 0 (length journal + 1)) in
       sums-more journal entry
       ∙ ap (λ asked. asked ++ ask (journal ++ entry ∷ [])) are
-      ∙ sym (flat_map-more ask fronts (journal ++ entry ∷ []))
-      ∙ ap (flat_map ask) (sym (fronts-of-more journal entry))
+      ∙ sym (flat_map-more ask prefixes (journal ++ entry ∷ []))
+      ∙ ap (flat_map ask) (sym (prefixes-of-more journal entry))
 
   sums-asked : (journal : List Entry) → positive_sums (lefts_of journal) ≡ flat_map ask (map (λ k. take k journal) (range_with_len 0 (length journal))) ++ ask journal
   unfolding AreAsked
   sums-asked journal =
       let n : ℕ = length journal in
-      let fronts : List (List Entry) = map (λ k. take k journal) (range_with_len 0 n) in
-      by-fronts AreAsked sums-none sums-next journal
-      ∙ ap (flat_map ask) (map-range_with_len_more (λ k. take k journal) 0 n n (omega arith) ∙ ap (λ front. fronts ++ front ∷ []) (take-length journal))
-      ∙ flat_map-more ask fronts journal
+      let prefixes : List (List Entry) = map (λ k. take k journal) (range_with_len 0 n) in
+      by-prefixes AreAsked sums-none sums-next journal
+      ∙ ap (flat_map ask) (map-range_with_len_more (λ k. take k journal) 0 n n (omega arith) ∙ ap (λ prefix. prefixes ++ prefix ∷ []) (take-length journal))
+      ∙ flat_map-more ask prefixes journal
 
 -- by positions
 flat-positions : (ask : List Entry → List ℕ) (x : Position) (ks : List ℕ)

@@ -8,20 +8,20 @@ use Rattle.seed_draws.specs.declared.draw_fault.DrawFault.{DrawFault}
 use Rattle.run_rules.specs.declared.entry.Entry.{Entry}
 use Rattle.run_rules.specs.Made.{numbers_left}
 use Rattle.run_rules.specs.Setup.{Setup}
-use Rattle.run_rules.specs.Intention.{ends_intention, ending_fronts, intention_lefts, last_left, picked_from, intended_by, intended_after}
+use Rattle.run_rules.specs.Intention.{ends_intention, ending_prefixes, intention_lefts, last_left, picked_from, intended_by, intended_after}
 
--- the fronts of a journal with one entry more: the same, and the whole where the entry ends the intention
-fronts-more : (selection : List Pickable) (before journal : List Entry) (entry : Entry)
-    → ending_fronts selection before (journal ++ entry ∷ [])
-    ≡ ending_fronts selection before journal ++ cond (ends_intention selection entry) ((before ++ (journal ++ entry ∷ [])) ∷ []) []
-unfolding ending_fronts
-fronts-more selection before [] entry = append-nil (cond (ends_intention selection entry) ((before ++ entry ∷ []) ∷ []) [])
-fronts-more selection before (first ∷ journal) entry =
+-- the prefixes of a journal with one entry more: the same, and the whole where the entry ends the intention
+prefixes-more : (selection : List Pickable) (before journal : List Entry) (entry : Entry)
+    → ending_prefixes selection before (journal ++ entry ∷ [])
+    ≡ ending_prefixes selection before journal ++ cond (ends_intention selection entry) ((before ++ (journal ++ entry ∷ [])) ∷ []) []
+unfolding ending_prefixes
+prefixes-more selection before [] entry = append-nil (cond (ends_intention selection entry) ((before ++ entry ∷ []) ∷ []) [])
+prefixes-more selection before (first ∷ journal) entry =
     let here : List (List Entry) = cond (ends_intention selection first) ((before ++ first ∷ []) ∷ []) [] in
-    let last : List Entry → List (List Entry) = λ front. cond (ends_intention selection entry) (front ∷ []) [] in
-    ap (λ later. here ++ later) (fronts-more selection (before ++ first ∷ []) journal entry)
-    ∙ sym (append_assoc here (ending_fronts selection (before ++ first ∷ []) journal) (last ((before ++ first ∷ []) ++ (journal ++ entry ∷ []))))
-    ∙ ap (λ front. (here ++ ending_fronts selection (before ++ first ∷ []) journal) ++ last front) (append_assoc before (first ∷ []) (journal ++ entry ∷ []))
+    let last : List Entry → List (List Entry) = λ prefix. cond (ends_intention selection entry) (prefix ∷ []) [] in
+    ap (λ later. here ++ later) (prefixes-more selection (before ++ first ∷ []) journal entry)
+    ∙ sym (append_assoc here (ending_prefixes selection (before ++ first ∷ []) journal) (last ((before ++ first ∷ []) ++ (journal ++ entry ∷ []))))
+    ∙ ap (λ prefix. (here ++ ending_prefixes selection (before ++ first ∷ []) journal) ++ last prefix) (append_assoc before (first ∷ []) (journal ++ entry ∷ []))
 
 -- an entry that doesn't end the intention draws none
 pub lefts-kept : (selection : List Pickable) (counts : List ℕ) (journal : List Entry) (entry : Entry) → ends_intention selection entry ≡ false
@@ -29,10 +29,10 @@ pub lefts-kept : (selection : List Pickable) (counts : List ℕ) (journal : List
 unfolding intention_lefts
 lefts-kept selection counts journal entry no_end =
     let left : List Entry → List ℕ = numbers_left selection counts in
-    ap (λ fronts. left [] ∷ map left fronts)
-    (fronts-more selection [] journal entry
-    ∙ ap (λ (b : Bool). ending_fronts selection [] journal ++ cond b ((journal ++ entry ∷ []) ∷ []) []) no_end
-    ∙ append-nil (ending_fronts selection [] journal))
+    ap (λ prefixes. left [] ∷ map left prefixes)
+    (prefixes-more selection [] journal entry
+    ∙ ap (λ (b : Bool). ending_prefixes selection [] journal ++ cond b ((journal ++ entry ∷ []) ∷ []) []) no_end
+    ∙ append-nil (ending_prefixes selection [] journal))
 
 -- one that ends it draws one from the numbers left after it
 pub lefts-more : (selection : List Pickable) (counts : List ℕ) (journal : List Entry) (entry : Entry) → ends_intention selection entry ≡ true
@@ -40,10 +40,10 @@ pub lefts-more : (selection : List Pickable) (counts : List ℕ) (journal : List
 unfolding intention_lefts
 lefts-more selection counts journal entry end =
     let left : List Entry → List ℕ = numbers_left selection counts in
-    ap (λ fronts. left [] ∷ map left fronts)
-    (fronts-more selection [] journal entry
-    ∙ ap (λ (b : Bool). ending_fronts selection [] journal ++ cond b ((journal ++ entry ∷ []) ∷ []) []) end)
-    ∙ ap (λ later. left [] ∷ later) (map-append left (ending_fronts selection [] journal) ((journal ++ entry ∷ []) ∷ []))
+    ap (λ prefixes. left [] ∷ map left prefixes)
+    (prefixes-more selection [] journal entry
+    ∙ ap (λ (b : Bool). ending_prefixes selection [] journal ++ cond b ((journal ++ entry ∷ []) ∷ []) []) end)
+    ∙ ap (λ later. left [] ∷ later) (map-append left (ending_prefixes selection [] journal) ((journal ++ entry ∷ []) ∷ []))
 
 -- ---- the intended thread, where the last of the lists is known
 

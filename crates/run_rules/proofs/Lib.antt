@@ -4,7 +4,7 @@ pub mod Chosen
 pub mod Counts
 pub mod Exists
 pub mod Fails
-pub mod Fronts
+pub mod Prefixes
 pub mod Goings
 pub mod IntendedSums
 pub mod Intentions

@@ -6,25 +6,25 @@ use Rattle.std.proofs.lemmas.List.Sums.{sum_by-cons}
 use Rattle.std.specs.List.{enumerate_from}
 use Rattle.event_class.specs.declared.pickable.Pickable.{Pickable}
 use Rattle.run_rules.specs.declared.entry.Entry.{Entry}
-use Rattle.run_rules.specs.Intention.{ends_intention, ending_fronts, intention_lefts, last_left}
+use Rattle.run_rules.specs.Intention.{ends_intention, ending_prefixes, intention_lefts, last_left}
 use Rattle.run_rules.specs.Made.{events_made, numbers_left}
 use Rattle.run_rules.specs.SurwChoice.{is_due_after, is_fresh}
-use Rattle.run_rules.proofs.Fronts.{IsNext, next-at}
+use Rattle.run_rules.proofs.Prefixes.{IsNext, next-at}
 use Rattle.run_rules.proofs.Intentions.{last-pushed, lefts-kept, lefts-more}
 use Rattle.run_rules.proofs.Numbers.{made-more}
 
 -- what holds of no entries, and of one entry more, holds of every journal
 module _ (P : List Entry → Type 0) (none : P []) (more : (journal : List Entry) (entry : Entry) → P journal → P (journal ++ entry ∷ [])) where
-  at-front : (journal : List Entry) (k : ℕ) → k ≤ length journal → P (take k journal)
-  at-front journal zero within = none
-  at-front journal (suc k) within =
+  at-prefix : (journal : List Entry) (k : ℕ) → k ≤ length journal → P (take k journal)
+  at-prefix journal zero within = none
+  at-prefix journal (suc k) within =
       let next : IsNext journal k = next-at journal k (omega (arith, within)) in
       let one : k + 1 ≡ suc k = omega arith in
       subst P (sym next.cut ∙ ap (λ n. take n journal) one)
-      (more (take k journal) next.item (at-front journal k (omega (arith, within))))
+      (more (take k journal) next.item (at-prefix journal k (omega (arith, within))))
 
-  pub by-fronts : (journal : List Entry) → P journal
-  by-fronts journal = subst P (take-length journal) (at-front journal (length journal) (omega arith))
+  pub by-prefixes : (journal : List Entry) → P journal
+  by-prefixes journal = subst P (take-length journal) (at-prefix journal (length journal) (omega arith))
 
 -- the last entry decides
 due-more : (selection : List Pickable) (at_start : Bool) (journal : List Entry) (entry : Entry)
@@ -68,7 +68,7 @@ module _ (selection : List Pickable) (counts : List ℕ) where
   IsLast journal = is_fresh selection journal ≡ true → last_left (lefts_of journal) ≡ left_of journal
 
   last-none : IsLast []
-  unfolding IsLast intention_lefts ending_fronts
+  unfolding IsLast intention_lefts ending_prefixes
   last-none = λ fresh. refl
 
   last-more : (journal : List Entry) (entry : Entry) → IsLast journal → IsLast (journal ++ entry ∷ [])
@@ -80,14 +80,14 @@ module _ (selection : List Pickable) (counts : List ℕ) where
 
   pub fresh-last : (journal : List Entry) → is_fresh selection journal ≡ true → last_left (lefts_of journal) ≡ left_of journal
   unfolding IsLast
-  fresh-last journal = by-fronts IsLast last-none last-more journal
+  fresh-last journal = by-prefixes IsLast last-none last-more journal
 
   -- and no more is left than there
   IsWithin : List Entry → Type 0
   IsWithin journal = sum (left_of journal) ≤ sum (last_left (lefts_of journal))
 
   within-none : IsWithin []
-  unfolding IsWithin intention_lefts ending_fronts
+  unfolding IsWithin intention_lefts ending_prefixes
   within-none = omega arith
 
   within-more : (journal : List Entry) (entry : Entry) → IsWithin journal → IsWithin (journal ++ entry ∷ [])
@@ -100,4 +100,4 @@ module _ (selection : List Pickable) (counts : List ℕ) where
 
   pub left-within : (journal : List Entry) → sum (left_of journal) ≤ sum (last_left (lefts_of journal))
   unfolding IsWithin
-  left-within journal = by-fronts IsWithin within-none within-more journal
+  left-within journal = by-prefixes IsWithin within-none within-more journal

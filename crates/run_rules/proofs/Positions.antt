@@ -7,7 +7,7 @@ use Rattle.std.proofs.lemmas.List.FromFn.{map-range_with_len_more, length-map-ra
 use Rattle.std.specs.List.{range_with_len}
 use Rattle.event_class.specs.declared.event.Event.{Event}
 use Rattle.run_rules.specs.declared.entry.Entry.{Entry}
-use Rattle.run_rules.proofs.Fronts.{IsNext, next-at}
+use Rattle.run_rules.proofs.Prefixes.{IsNext, next-at}
 use Rattle.run_rules.specs.Position.{Position, words_before, position_at, earlier}
 
 words-append : (entries more : List Entry) (words : List (Option Event))

@@ -1,4 +1,4 @@
--- The positions of a script: those before each entry of a legal journal are the positions after its fronts.
+-- The positions of a script: those before each entry of a legal journal are the positions after its prefixes.
 use Rattle.std.proofs.Common.{◌≡◌, ◌≢◌, ℕ, zero, suc, ◌+◌, ◌-◌, ◌<◌, ◌≤◌, List, [], ◌∷◌, ◌++◌, length, map, take, set, get_or, Option, None, Some, ap, sym, ◌∙◌, inl, inr, arith}
 use Rattle.std.proofs.Math.Seq.{take-length}
 use Rattle.std.proofs.lemmas.Bool.{cases_eq}
@@ -11,7 +11,7 @@ use Rattle.run_rules.specs.Legal.{IsLegal, IsLegalNext}
 use Rattle.run_rules.specs.Position.{position_at, position_of}
 use Rattle.run_rules.specs.Setup.{Script}
 use Rattle.run_rules.specs.Told.{said}
-use Rattle.run_rules.proofs.Fronts.{IsNext, next-at, each-front, each-more}
+use Rattle.run_rules.proofs.Prefixes.{IsNext, next-at, each-prefix, each-more}
 use Rattle.run_rules.proofs.Journals.{told-other}
 use Rattle.run_rules.proofs.Positions.{position-again, position-here}
 
@@ -82,7 +82,7 @@ script-from script journal k (suc more) legal within =
     let next : IsNext journal (k + more) = next-at journal (k + more) (omega (arith, within)) in
     let long : length (take (k + more) journal) ≡ k + more = length-take-le (k + more) journal (omega (arith, within)) in
     ap (λ n. position_at (position_of script (take n journal)) k) one
-    ∙ ap (λ front. position_at (position_of script front) k) next.cut
+    ∙ ap (λ prefix. position_at (position_of script prefix) k) next.cut
     ∙ script-more script (take (k + more) journal) next.item k (legal (k + more) next.item next.there).announced (omega (arith, long))
     ∙ script-from script journal k more legal (omega (arith, within))
 
@@ -91,12 +91,12 @@ pub script-again : (script : Script) (journal : List Entry) (k : ℕ) → IsLega
     → position_at (position_of script journal) k ≡ position_of script (take k journal)
 script-again script journal k legal within =
     let whole : k + (length journal - k) ≡ length journal = omega (arith, within) in
-    ap (λ front. position_at (position_of script front) k) (sym (ap (λ n. take n journal) whole ∙ take-length journal))
+    ap (λ prefix. position_at (position_of script prefix) k) (sym (ap (λ n. take n journal) whole ∙ take-length journal))
     ∙ script-from script journal k (length journal - k) legal (omega (arith, whole))
 
--- a front of a legal journal is legal
-pub legal-front : (script : Script) (journal : List Entry) (k : ℕ) → IsLegal script journal → IsLegal script (take k journal)
-legal-front script journal k legal = each-front (IsLegalNext script) journal k legal
+-- a prefix of a legal journal is legal
+pub legal-prefix : (script : Script) (journal : List Entry) (k : ℕ) → IsLegal script journal → IsLegal script (take k journal)
+legal-prefix script journal k legal = each-prefix (IsLegalNext script) journal k legal
 
 -- with an entry more that can follow it a legal journal is legal
 pub legal-more : (script : Script) (journal : List Entry) (entry : Entry) → IsLegal script journal → IsLegalNext script journal entry

@@ -14,7 +14,7 @@ use Rattle.run_rules.specs.Journal.{world_after}
 use Rattle.run_rules.specs.Made.{events_made, numbers_left}
 use Rattle.run_rules.specs.Position.{Position, earlier, position_at, seen_at, words_before}
 use Rattle.run_rules.specs.Setup.{Setup}
-use Rattle.run_rules.specs.Intention.{ending_fronts, intended_after, intention_lefts}
+use Rattle.run_rules.specs.Intention.{ending_prefixes, intended_after, intention_lefts}
 use Rattle.run_rules.specs.SurwChoice.{is_due_after, surw_choice, surw_memory_at}
 use Rattle.run_rules.proofs.IntendedSums.{intentions_asked}
 
@@ -46,33 +46,33 @@ run = record {
 }
 
 first : surw_choice setup (position_at run 0) ≡ Grant 0 false
-unfolding surw_choice intended_after intention_lefts ending_fronts is_due_after earlier position_at words_before seen_at world_after numbers_left events_made able_threads narrow bag pick answers
+unfolding surw_choice intended_after intention_lefts ending_prefixes is_due_after earlier position_at words_before seen_at world_after numbers_left events_made able_threads narrow bag pick answers
 first = refl
 
 -- thread 1 is intended and held, and thread 0 announces a selected store
 forced : surw_choice setup (position_at run 1) ≡ Grant 0 true
-unfolding surw_choice intended_after intention_lefts ending_fronts is_due_after earlier position_at words_before seen_at world_after numbers_left events_made able_threads narrow bag pick answers
+unfolding surw_choice intended_after intention_lefts ending_prefixes is_due_after earlier position_at words_before seen_at world_after numbers_left events_made able_threads narrow bag pick answers
 forced = refl
 
 -- the forced step leaves the intention
 still : surw_memory_at setup (position_at run 2) ≡ record new_memory { intended = Some 1 }
-unfolding surw_choice intended_after intention_lefts ending_fronts is_due_after earlier position_at words_before seen_at world_after numbers_left events_made able_threads narrow bag pick answers
+unfolding surw_choice intended_after intention_lefts ending_prefixes is_due_after earlier position_at words_before seen_at world_after numbers_left events_made able_threads narrow bag pick answers
 still = refl
 
 -- one draw was asked for so far, below the two events left at first
 asked : intentions_asked setup (position_at run 4) ≡ 2 ∷ []
-unfolding surw_choice intended_after intention_lefts ending_fronts is_due_after earlier position_at words_before seen_at world_after numbers_left events_made able_threads narrow bag pick answers
+unfolding surw_choice intended_after intention_lefts ending_prefixes is_due_after earlier position_at words_before seen_at world_after numbers_left events_made able_threads narrow bag pick answers
 asked = refl
 
 met : surw_choice setup (position_at run 4) ≡ Grant 1 false
-unfolding surw_choice intended_after intention_lefts ending_fronts is_due_after earlier position_at words_before seen_at world_after numbers_left events_made able_threads narrow bag pick answers
+unfolding surw_choice intended_after intention_lefts ending_prefixes is_due_after earlier position_at words_before seen_at world_after numbers_left events_made able_threads narrow bag pick answers
 met = refl
 
 -- after the step that ends it no event is left, so no draw is asked for and no thread is intended
 over : surw_memory_at setup (position_at run 5) ≡ new_memory
-unfolding surw_choice intended_after intention_lefts ending_fronts is_due_after earlier position_at words_before seen_at world_after numbers_left events_made able_threads narrow bag pick answers
+unfolding surw_choice intended_after intention_lefts ending_prefixes is_due_after earlier position_at words_before seen_at world_after numbers_left events_made able_threads narrow bag pick answers
 over = refl
 
 none : intentions_asked setup (position_at run 5) ≡ 2 ∷ []
-unfolding surw_choice intended_after intention_lefts ending_fronts is_due_after earlier position_at words_before seen_at world_after numbers_left events_made able_threads narrow bag pick answers
+unfolding surw_choice intended_after intention_lefts ending_prefixes is_due_after earlier position_at words_before seen_at world_after numbers_left events_made able_threads narrow bag pick answers
 none = refl

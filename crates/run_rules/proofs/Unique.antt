@@ -13,38 +13,38 @@ use Rattle.run_rules.specs.Run.{IsRunJournal}
 use Rattle.run_rules.specs.Setup.{Script}
 use Rattle.run_rules.specs.Told.{said}
 use Rattle.run_rules.specs.Verdict.{verdict_at}
-use Rattle.run_rules.proofs.Fronts.{AtEach, IsNext, next-at}
-use Rattle.run_rules.proofs.Goings.{GoesOnAfter, going-fronts}
+use Rattle.run_rules.proofs.Prefixes.{AtEach, IsNext, next-at}
+use Rattle.run_rules.proofs.Goings.{GoesOnAfter, going-prefixes}
 use Rattle.run_rules.proofs.Verdicts.{grant-parts}
 
--- an entry that can follow a front, and with which the run goes on
+-- an entry that can follow a prefix, and with which the run goes on
 abbrev IsStep : Script → List Entry → Entry → Type 0
-IsStep script front entry = IsLegalNext script front entry × GoesOnAfter script front entry
+IsStep script prefix entry = IsLegalNext script prefix entry × GoesOnAfter script prefix entry
 
 run-step : (script : Script) (journal : List Entry) → IsRunJournal script journal → AtEach (IsStep script) journal
-run-step script journal run k entry at = (run.legal k entry at, going-fronts script journal run.legal run.going k entry at)
+run-step script journal run k entry at = (run.legal k entry at, going-prefixes script journal run.legal run.going k entry at)
 
 -- two such entries are one
-step-same : (script : Script) (front : List Entry) (entry other : Entry) → IsStep script front entry → IsStep script front other → entry ≡ other
-step-same script front entry other step twin =
-    let world : WorldState = world_after (new_world script.setup.size) front in
+step-same : (script : Script) (prefix : List Entry) (entry other : Entry) → IsStep script prefix entry → IsStep script prefix other → entry ≡ other
+step-same script prefix entry other step twin =
+    let world : WorldState = world_after (new_world script.setup.size) prefix in
     let grant = grant-parts entry.thread other.thread entry.forced other.forced (sym step.1.chosen ∙ twin.1.chosen) in
     let event : entry.event ≡ other.event =
-    same_Some entry.event other.event (sym step.0.announced ∙ ap (λ thread. said script front thread) grant.0 ∙ twin.0.announced) in
+    same_Some entry.event other.event (sym step.0.announced ∙ ap (λ thread. said script prefix thread) grant.0 ∙ twin.0.announced) in
     let replied : entry.reply ≡ other.reply = step.0.replied ∙ (λ i. reply world (grant.0 i) (event i)) ∙ sym twin.0.replied in
     (λ i. record { thread = grant.0 i; event = event i; reply = replied i; forced = grant.1 i })
 
 -- two runs begin with the same entries, as far as both go
-fronts-same : (script : Script) (journal other : List Entry) → AtEach (IsStep script) journal → AtEach (IsStep script) other
+prefixes-same : (script : Script) (journal other : List Entry) → AtEach (IsStep script) journal → AtEach (IsStep script) other
     → (k : ℕ) → k ≤ length journal → k ≤ length other → take k journal ≡ take k other
-fronts-same script journal other steps twins zero short brief = refl
-fronts-same script journal other steps twins (suc k) short brief =
-    let before : take k journal ≡ take k other = fronts-same script journal other steps twins k (omega (arith, short)) (omega (arith, brief)) in
+prefixes-same script journal other steps twins zero short brief = refl
+prefixes-same script journal other steps twins (suc k) short brief =
+    let before : take k journal ≡ take k other = prefixes-same script journal other steps twins k (omega (arith, short)) (omega (arith, brief)) in
     let next : IsNext journal k = next-at journal k (omega (arith, short)) in
     let twin : IsNext other k = next-at other k (omega (arith, brief)) in
     let same : next.item ≡ twin.item =
     step-same script (take k journal) next.item twin.item (steps k next.item next.there)
-    (subst (λ front. IsStep script front twin.item) (sym before) (twins k twin.item twin.there)) in
+    (subst (λ prefix. IsStep script prefix twin.item) (sym before) (twins k twin.item twin.there)) in
     let one : suc k ≡ k + 1 = omega arith in
     ap (λ n. take n journal) one
     ∙ next.cut
@@ -56,11 +56,11 @@ fronts-same script journal other steps twins (suc k) short brief =
 no-longer : (script : Script) (journal other : List Entry) → IsRunJournal script journal → IsRunJournal script other → length journal < length other → ⊥
 no-longer script journal other run twin shorter =
     let next : IsNext other (length journal) = next-at other (length journal) shorter in
-    let going = going-fronts script other twin.legal twin.going (length journal) next.item next.there in
+    let going = going-prefixes script other twin.legal twin.going (length journal) next.item next.there in
     let same : take (length journal) other ≡ journal =
-    sym (fronts-same script journal other (run-step script journal run) (run-step script other twin) (length journal) (omega arith) (omega (arith, shorter)))
+    sym (prefixes-same script journal other (run-step script journal run) (run-step script other twin) (length journal) (omega arith) (omega (arith, shorter)))
     ∙ take-length journal in
-    false≢true (ap is_some (sym (ap (λ front. verdict_at script.setup (position_of script front)) (sym same) ∙ going.going)) ∙ run.stops)
+    false≢true (ap is_some (sym (ap (λ prefix. verdict_at script.setup (position_of script prefix)) (sym same) ∙ going.going)) ∙ run.stops)
 
 -- two runs of a script are one
 pub run-unique : (script : Script) (journal other : List Entry) → IsRunJournal script journal → IsRunJournal script other → other ≡ journal
@@ -71,7 +71,7 @@ run-unique script journal other run twin = elim (cases_lt (length journal) (leng
     | inr no_longer ↦
         let long : length journal ≡ length other = omega (arith, no_shorter, no_longer) in
         sym (take-length other)
-        ∙ sym (fronts-same script journal other (run-step script journal run) (run-step script other twin) (length other) (omega (arith, long)) (omega arith))
+        ∙ sym (prefixes-same script journal other (run-step script journal run) (run-step script other twin) (length other) (omega (arith, long)) (omega arith))
         ∙ ap (λ n. take n journal) (sym long)
         ∙ take-length journal
   ]

@@ -13,15 +13,15 @@ use Rattle.run_rules.specs.Setup.{Setup}
 abbrev pub ends_intention : List Pickable → Entry → Bool
 ends_intention selection entry = has selection entry.event && not entry.forced
 
--- after these entries, the fronts that end with an entry that ends the intention
-unfoldable pub ending_fronts : List Pickable → List Entry → List Entry → List (List Entry)
-ending_fronts selection before [] = []
-ending_fronts selection before (entry ∷ entries) =
-    (if ends_intention selection entry then (before ++ entry ∷ []) ∷ [] else []) ++ ending_fronts selection (before ++ entry ∷ []) entries
+-- after these entries, the prefixes that end with an entry that ends the intention
+unfoldable pub ending_prefixes : List Pickable → List Entry → List Entry → List (List Entry)
+ending_prefixes selection before [] = []
+ending_prefixes selection before (entry ∷ entries) =
+    (if ends_intention selection entry then (before ++ entry ∷ []) ∷ [] else []) ++ ending_prefixes selection (before ++ entry ∷ []) entries
 
 -- the numbers left where each intention is drawn: at the start, and after each entry that ended one
 unfoldable pub intention_lefts : List Pickable → List ℕ → List Entry → List (List ℕ)
-intention_lefts selection counts journal = map (numbers_left selection counts) ([] ∷ ending_fronts selection [] journal)
+intention_lefts selection counts journal = map (numbers_left selection counts) ([] ∷ ending_prefixes selection [] journal)
 
 -- those where the last one is drawn
 abbrev pub last_left : List (List ℕ) → List ℕ

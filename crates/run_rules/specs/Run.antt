@@ -46,7 +46,7 @@ bent_at setup x =
     min (setup.selected.bent (selected_asked setup (drawn setup x)) + setup.other.bent (other_asked setup (drawn setup x))) max_word
 
 -- what a run is seen as
-pub record Ran : Type 0 where
+pub record Outcome : Type 0 where
   pub journal : List Entry
   pub world : WorldState
   pub verdict : Verdict
@@ -57,15 +57,15 @@ pub record Ran : Type 0 where
   pub failed : List (Option ℕ)
 
 -- this is the run of a plan, with all that it tells
-pub record IsRun (script : Script) (ran : Ran) : Type 0 where
-  pub run : IsRunJournal script ran.journal
-  pub verdict : verdict_at script.setup (position_of script ran.journal) ≡ Some ran.verdict
-  pub words : ran.words ≡ (position_of script ran.journal).words
-  pub world : ran.world ≡ world_at script.setup (position_of script ran.journal)
-  pub bent : ran.bent ≡ bent_at script.setup (position_of script ran.journal)
-  pub selection : ran.selection ≡ script.setup.selection
-  pub monitors : ran.monitors ≡ script.setup.monitors
-  pub failed : ran.failed ≡ map (failed_at (new_world script.setup.size) ran.journal ran.verdict) ran.monitors
+pub record IsRun (script : Script) (outcome : Outcome) : Type 0 where
+  pub run : IsRunJournal script outcome.journal
+  pub verdict : verdict_at script.setup (position_of script outcome.journal) ≡ Some outcome.verdict
+  pub words : outcome.words ≡ (position_of script outcome.journal).words
+  pub world : outcome.world ≡ world_at script.setup (position_of script outcome.journal)
+  pub bent : outcome.bent ≡ bent_at script.setup (position_of script outcome.journal)
+  pub selection : outcome.selection ≡ script.setup.selection
+  pub monitors : outcome.monitors ≡ script.setup.monitors
+  pub failed : outcome.failed ≡ map (failed_at (new_world script.setup.size) outcome.journal outcome.verdict) outcome.monitors
 
 -- exactly one journal is the run of a plan
 abbrev pub OneRun : Script → Type 0
@@ -73,4 +73,4 @@ OneRun script = (journal : List Entry) × IsRunJournal script journal × ((other
 
 -- what is told of the run of a plan is one
 abbrev pub OneTelling : Script → Type 0
-OneTelling script = (ran other : Ran) → IsRun script ran → IsRun script other → other ≡ ran
+OneTelling script = (outcome other : Outcome) → IsRun script outcome → IsRun script other → other ≡ outcome

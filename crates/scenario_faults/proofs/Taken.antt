@@ -1,7 +1,7 @@
 -- Pieces that are taken one after another.
 use Rattle.std.proofs.Common.{◌≡◌, ℕ, zero, suc, ◌<◌, List, [], ◌∷◌, ◌++◌, length, take, drop, get_or, Option, refl, ap, sym, ◌∙◌, append_assoc, arith}
 use Rattle.std.specs.List.{flat_map}
-use Rattle.surw_io.specs.Content.{with_end, HoldsFront}
+use Rattle.surw_io.specs.Content.{with_end, HoldsPrefix}
 use Rattle.surw_io.proofs.Told.{with_end-twice}
 
 -- a piece behind what was taken is taken with it
@@ -10,15 +10,15 @@ pub one_more_whole : (first before after : Option (List ℕ)) (done piece : List
 one_more_whole first before after done piece told taken =
     taken ∙ ap (λ (t : Option (List ℕ)). with_end t piece) told ∙ with_end-twice first done piece
 
--- a front of a piece behind whole pieces is a front of all
-pub front_of_all : (first before after : Option (List ℕ)) (done piece rest all : List ℕ) → (done ++ piece) ++ rest ≡ all → before ≡ with_end first done
-    → HoldsFront before piece after → HoldsFront first all after
-front_of_all first before after done piece rest all whole told held = record {
-  front = done ++ held.front;
+-- a prefix of a piece behind whole pieces is a prefix of all
+pub prefix_of_all : (first before after : Option (List ℕ)) (done piece rest all : List ℕ) → (done ++ piece) ++ rest ≡ all → before ≡ with_end first done
+    → HoldsPrefix before piece after → HoldsPrefix first all after
+prefix_of_all first before after done piece rest all whole told held = record {
+  prefix = done ++ held.prefix;
   rest = held.rest ++ rest;
-  whole = append_assoc done held.front (held.rest ++ rest) ∙ ap (λ (l : List ℕ). done ++ l) (sym (append_assoc held.front held.rest rest))
+  whole = append_assoc done held.prefix (held.rest ++ rest) ∙ ap (λ (l : List ℕ). done ++ l) (sym (append_assoc held.prefix held.rest rest))
       ∙ ap (λ (l : List ℕ). done ++ (l ++ rest)) held.whole ∙ sym (append_assoc done piece rest) ∙ whole;
-  held = one_more_whole first before after done held.front told held.held;
+  held = one_more_whole first before after done held.prefix told held.held;
 }
 
 -- the pieces before one, the piece and the pieces behind it are all pieces

@@ -1,6 +1,6 @@
 ghost use Rattle.std.specs.Prelude.{◌≡◌, OnOk, OnErr};
 ghost use Rattle.surw_io.specs.Cause.{HasCause};
-ghost use Rattle.surw_io.specs.Content.{with_end, HoldsFront};
+ghost use Rattle.surw_io.specs.Content.{with_end, HoldsPrefix};
 ghost use Rattle.scenario_faults.specs.FaultText.{key_line, scenario_fault_text};
 
 use crate::numbers::numbers_end;
@@ -9,11 +9,11 @@ use scenario_toml::ScenarioFault;
 use surw_io::{Failed, Sink};
 
 /// Writes the line of a scenario's fault. It takes no memory. After `Failed`, which comes only where the
-/// sink's faults rose, a front of the line was taken. `OutOfMemory` is no fault of a file and has no line:
+/// sink's faults rose, a prefix of the line was taken. `OutOfMemory` is no fault of a file and has no line:
 /// nothing is written.
 pub fn put_fault<O: Sink>(fault: &ScenarioFault, out: &mut O) -> Result<(), Failed>
     ensures all { OnOk result (O.taken out.new ≡ with_end (O.taken out.old) (scenario_fault_text fault.now)) }
-    ensures front { OnErr result (HoldsFront (O.taken out.old) (scenario_fault_text fault.now) (O.taken out.new)) }
+    ensures prefix { OnErr result (HoldsPrefix (O.taken out.old) (scenario_fault_text fault.now) (O.taken out.new)) }
     ensures cause { HasCause (O.faults out.old) (O.faults out.new) result ⊥ }
 {
     match fault {
@@ -50,7 +50,7 @@ pub fn put_fault<O: Sink>(fault: &ScenarioFault, out: &mut O) -> Result<(), Fail
 // Writes the line of a fault that is told by its word and a key.
 fn put_key_line<O: Sink>(out: &mut O, word: &[u8], key: &[u8]) -> Result<(), Failed>
     ensures all { OnOk result (O.taken out.new ≡ with_end (O.taken out.old) (key_line word.now key.now)) }
-    ensures front { OnErr result (HoldsFront (O.taken out.old) (key_line word.now key.now) (O.taken out.new)) }
+    ensures prefix { OnErr result (HoldsPrefix (O.taken out.old) (key_line word.now key.now) (O.taken out.new)) }
     ensures cause { HasCause (O.faults out.old) (O.faults out.new) result ⊥ }
 {
     put_pieces(out, &[b"fault scenario ", word, b" ", key, b"\n"])

@@ -17,7 +17,7 @@ use Rattle.routine_kit.specs.declared.shape.Shape.TheVariants.{Oldest, Reserve, 
 use Rattle.routine_kit.specs.Line.{IsLine, IsOperand, IsTarget, operands_of}
 use Rattle.routine_kit.specs.LineText.{IsLineText, IsWord, into_words, line_text, line_verb, line_words, shape_verb, sign_of, shapes_of_none, shapes_of_one, shapes_of_two, shapes_of_three, word_text, words_text}
 use Rattle.scenario_toml.proofs.Finding.{found-at, found-left, found-map, found-right, read-found}
-use Rattle.scenario_toml.proofs.Texts.{NoSpace, words-front, words-last, no-space-decimal, value-decimal, same-bytes, bytes-same}
+use Rattle.scenario_toml.proofs.Texts.{NoSpace, words-prefix, words-last, no-space-decimal, value-decimal, same-bytes, bytes-same}
 use Rattle.scenario_toml.specs.LineOf.{acts, is_line, is_operand, is_target, is_text_of_line, line_of, lines, operand_at, operand_of, others, register_at, register_of}
 use Rattle.scenario_toml.specs.Words.{number_at, words}
 
@@ -171,7 +171,7 @@ from-test text line is =
 parts-of : (verb : List ℕ) (ws : List LineWord) → NoSpace verb → AllByRecursion IsPlain ws → words (verb ++ words_text ws) ≡ verb ∷ map word_text ws
 parts-of verb [] none all = ap words (append-nil verb) ∙ words-last verb none
 parts-of verb (w ∷ ws) none all =
-    words-front verb (word_text w ++ words_text ws) none ∙ ap (λ l. verb ∷ l) (parts-of (word_text w) ws all.0 all.1)
+    words-prefix verb (word_text w ++ words_text ws) none ∙ ap (λ l. verb ∷ l) (parts-of (word_text w) ws all.0 all.1)
 
 -- no verb has a space
 not-true : (b : Bool) → not b ≡ true → b ≡ false

@@ -10,7 +10,7 @@ use Rattle.event_class.specs.declared.pickable.Pickable.{Pickable}
 use Rattle.event_class.specs.declared.pickable.Pickable.TheVariants.{Every, Of, LockNo, CellNo}
 use Rattle.event_class.specs.Selection.{pickable_text, IsPickableText, IsSmall}
 use Rattle.scenario_toml.proofs.Finding.{found-at, read-found}
-use Rattle.scenario_toml.proofs.Texts.{words-front, words-last, no-space-decimal, value-decimal, same-bytes, bytes-same}
+use Rattle.scenario_toml.proofs.Texts.{words-prefix, words-last, no-space-decimal, value-decimal, same-bytes, bytes-same}
 use Rattle.scenario_toml.specs.Words.{words, number_at, pickables, is_pickable, is_text_of_pickable, pickable_of}
 
 small-test : (item : Pickable) → IsSmall item → is_pickable item ≡ true
@@ -36,7 +36,7 @@ from-test text item is =
 -- the number of a text is that of its item
 number-of : (text word : List ℕ) (n : ℕ) → text ≡ word ++ 32 ∷ decimal n → All (λ b. (b == 32) ≡ false) word → n < 2 ^ 64 → number_at (words text) 1 ≡ n
 number-of text word n is none small =
-    ap (λ l. number_at l 1) (ap words is ∙ words-front word (decimal n) none ∙ ap (λ l. word ∷ l) (words-last (decimal n) (no-space-decimal n small)))
+    ap (λ l. number_at l 1) (ap words is ∙ words-prefix word (decimal n) none ∙ ap (λ l. word ∷ l) (words-last (decimal n) (no-space-decimal n small)))
     ∙ value-decimal n small
 
 -- what has a text is among the items that are looked at

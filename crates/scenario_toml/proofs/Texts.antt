@@ -19,15 +19,15 @@ unfolding words
 step-no b bs other = ap (λ t. cond t ([] ∷ words bs) (longer b (words bs))) other
 
 -- what has no space is one part, before the next space
-pub words-front : (front rest : List ℕ) → NoSpace front → words (front ++ 32 ∷ rest) ≡ front ∷ words rest
+pub words-prefix : (prefix rest : List ℕ) → NoSpace prefix → words (prefix ++ 32 ∷ rest) ≡ prefix ∷ words rest
 unfolding words
-words-front [] rest none = refl
-words-front (b ∷ bs) rest none =
+words-prefix [] rest none = refl
+words-prefix (b ∷ bs) rest none =
     step-no b (bs ++ 32 ∷ rest) (All-head (λ c. (c == 32) ≡ false) b bs none)
-    ∙ ap (longer b) (words-front bs rest (All-tail (λ c. (c == 32) ≡ false) b bs none))
+    ∙ ap (longer b) (words-prefix bs rest (All-tail (λ c. (c == 32) ≡ false) b bs none))
 
 -- or at the end
-pub words-last : (front : List ℕ) → NoSpace front → words front ≡ front ∷ []
+pub words-last : (prefix : List ℕ) → NoSpace prefix → words prefix ≡ prefix ∷ []
 unfolding words
 words-last [] none = refl
 words-last (b ∷ bs) none =

@@ -6,37 +6,37 @@ use Rattle.std.proofs.lemmas.List.Elements.{All-from_recursion}
 use Rattle.std.specs.Fmt.{decimal}
 use Rattle.std.specs.List.{find}
 use Rattle.std.specs.Str.{bytes_eq}
-use Rattle.surw_base.proofs.Fronts.{number-some, number-again}
-use Rattle.surw_base.specs.Front.{IsLongestFront, HasNoFront}
+use Rattle.surw_base.proofs.Prefixes.{number-some, number-again}
+use Rattle.surw_base.specs.Prefix.{IsLongestPrefix, HasNoPrefix}
 use Rattle.surw_base.specs.Number.{IsNumberText}
 use Rattle.scenario_toml.proofs.Finding.{found-at, read-found}
-use Rattle.scenario_toml.proofs.Texts.{words-front, words-last, no-space-decimal, value-decimal, same-bytes, bytes-same}
+use Rattle.scenario_toml.proofs.Texts.{words-prefix, words-last, no-space-decimal, value-decimal, same-bytes, bytes-same}
 use Rattle.scenario_toml.specs.declared.watch.Watch.{Watch}
 use Rattle.scenario_toml.specs.declared.watch.Watch.TheVariants.{WriteAhead, LogWhole, Expect, CellEnd}
 use Rattle.scenario_toml.specs.WatchText.{AreTwoNumbers, IsWatchText, IsSmall}
 use Rattle.scenario_toml.specs.Words.{words, number_at, is_small, watches, is_watch, watch_text, is_text_of_watch, watch_of}
 
 -- two numbers begin with one
-pub some-number : (text : List ℕ) (m n : ℕ) → HasNoFront IsNumberText text → AreTwoNumbers text m n → ⊥
+pub some-number : (text : List ℕ) (m n : ℕ) → HasNoPrefix IsNumberText text → AreTwoNumbers text m n → ⊥
 some-number text m n none is = number-some text (32 ∷ decimal n) m is.text is.cell_below (λ r. omega (arith, r.0)) none
 
 -- behind which stands a space and the other
-pub two-numbers : (text : List ℕ) (m n v len : ℕ) → IsLongestFront IsNumberText text v len → AreTwoNumbers text m n
+pub two-numbers : (text : List ℕ) (m n v len : ℕ) → IsLongestPrefix IsNumberText text v len → AreTwoNumbers text m n
     → (v ≡ m) × (drop len text ≡ 32 ∷ decimal n)
-two-numbers text m n v len front is = number-again text (32 ∷ decimal n) m v len is.text is.cell_below (λ r. omega (arith, r.0)) front
+two-numbers text m n v len prefix is = number-again text (32 ∷ decimal n) m v len is.text is.cell_below (λ r. omega (arith, r.0)) prefix
 
-pub space-behind : (text : List ℕ) (m n v len : ℕ) → IsLongestFront IsNumberText text v len → AreTwoNumbers text m n → get_or text len 0 ≡ 32
-space-behind text m n v len front is =
+pub space-behind : (text : List ℕ) (m n v len : ℕ) → IsLongestPrefix IsNumberText text v len → AreTwoNumbers text m n → get_or text len 0 ≡ 32
+space-behind text m n v len prefix is =
     let end : len + 0 ≡ len = omega arith in
-    sym (ap (λ (k : ℕ). get_or text k 0) end) ∙ sym (get_or-drop len text 0 0) ∙ ap (λ (l : List ℕ). get_or l 0 0) (two-numbers text m n v len front is).1
+    sym (ap (λ (k : ℕ). get_or text k 0) end) ∙ sym (get_or-drop len text 0 0) ∙ ap (λ (l : List ℕ). get_or l 0 0) (two-numbers text m n v len prefix is).1
 
-pub not-at-end : (text : List ℕ) (m n v len : ℕ) → IsLongestFront IsNumberText text v len → AreTwoNumbers text m n → len ≡ length text → ⊥
-not-at-end text m n v len front is end =
-    omega (arith, length-drop len text, ap length (two-numbers text m n v len front is).1)
+pub not-at-end : (text : List ℕ) (m n v len : ℕ) → IsLongestPrefix IsNumberText text v len → AreTwoNumbers text m n → len ≡ length text → ⊥
+not-at-end text m n v len prefix is end =
+    omega (arith, length-drop len text, ap length (two-numbers text m n v len prefix is).1)
 
-pub second-number : (text : List ℕ) (m n v len : ℕ) → IsLongestFront IsNumberText text v len → AreTwoNumbers text m n → IsNumberText (drop (len + 1) text) n
-second-number text m n v len front is = record {
-  digits = sym (drop-drop 1 len text) ∙ ap (drop 1) (two-numbers text m n v len front is).1;
+pub second-number : (text : List ℕ) (m n v len : ℕ) → IsLongestPrefix IsNumberText text v len → AreTwoNumbers text m n → IsNumberText (drop (len + 1) text) n
+second-number text m n v len prefix is = record {
+  digits = sym (drop-drop 1 len text) ∙ ap (drop 1) (two-numbers text m n v len prefix is).1;
   below = is.value_below;
 }
 
@@ -65,9 +65,9 @@ from-test text watch is =
 parts : (text : List ℕ) (cell value : ℕ) → IsWatchText text (CellEnd cell value) → words text ≡ codes "cell_end" ∷ decimal cell ∷ decimal value ∷ []
 parts text cell value is =
     ap words is.text
-    ∙ words-front (codes "cell_end") (decimal cell ++ 32 ∷ decimal value)
+    ∙ words-prefix (codes "cell_end") (decimal cell ++ 32 ∷ decimal value)
     (All-from_recursion (λ b. (b == 32) ≡ false) (codes "cell_end") (refl, (refl, (refl, (refl, (refl, (refl, (refl, (refl, tt)))))))))
-    ∙ ap (λ l. codes "cell_end" ∷ l) (words-front (decimal cell) (decimal value) (no-space-decimal cell is.below.0))
+    ∙ ap (λ l. codes "cell_end" ∷ l) (words-prefix (decimal cell) (decimal value) (no-space-decimal cell is.below.0))
     ∙ ap (λ l. codes "cell_end" ∷ decimal cell ∷ l) (words-last (decimal value) (no-space-decimal value is.below.1))
 
 -- what has a text is among what is looked at

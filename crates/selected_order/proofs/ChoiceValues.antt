@@ -18,7 +18,7 @@ use Rattle.walk_rules.specs.Surw.{narrow}
 use Rattle.run_rules.specs.declared.entry.Entry.{Entry}
 use Rattle.run_rules.specs.declared.verdict.Verdict.TheVariants.{Ended}
 use Rattle.run_rules.specs.Choice.{choice}
-use Rattle.run_rules.specs.Intention.{ending_fronts, intention_lefts, intended_after}
+use Rattle.run_rules.specs.Intention.{ending_prefixes, intention_lefts, intended_after}
 use Rattle.run_rules.specs.Journal.{world_after}
 use Rattle.run_rules.specs.Made.{events_made, numbers_left}
 use Rattle.run_rules.specs.Position.{Position, words_before, position_at, earlier, seen_at}
@@ -55,7 +55,7 @@ lost_update = ended_with (free 0 (Load 0) 0 ∷ free 1 (Load 0) 0 ∷ free 0 (St
 
 lost_update-choices : choices (setup_with 1 0 (Of Cell ∷ []) (2 ∷ 2 ∷ []) (0 ∷ 1 ∷ 0 ∷ 0 ∷ []) []) lost_update 4
     ≡ Grant 0 false ∷ Grant 1 false ∷ Grant 0 false ∷ Grant 1 false ∷ []
-unfolding choices lost_update ended_with free setup_with surw_choice is_due_after intended_after intention_lefts ending_fronts
+unfolding choices lost_update ended_with free setup_with surw_choice is_due_after intended_after intention_lefts ending_prefixes
     narrow answers able_threads bag pick numbers_left events_made earlier position_at words_before seen_at world_after
 lost_update-choices = refl
 
@@ -73,7 +73,7 @@ longer = ended_with
 longer-choices : choices (setup_with 2 0 (CellNo 0 ∷ []) (2 ∷ 2 ∷ []) (0 ∷ 1 ∷ 0 ∷ 0 ∷ []) (1 ∷ 1 ∷ 1 ∷ [])) longer 10
     ≡ Grant 1 false ∷ Grant 1 false ∷ Grant 1 false ∷ Grant 0 false ∷ Grant 0 false ∷ Grant 0 false ∷ Grant 0 false
     ∷ Grant 1 false ∷ Grant 0 false ∷ Grant 1 false ∷ []
-unfolding choices longer ended_with free setup_with surw_choice is_due_after intended_after intention_lefts ending_fronts
+unfolding choices longer ended_with free setup_with surw_choice is_due_after intended_after intention_lefts ending_prefixes
     narrow answers able_threads bag pick numbers_left events_made earlier position_at words_before seen_at world_after
 longer-choices = refl
 
@@ -85,7 +85,7 @@ held_lock = ended_with
 
 held_lock-choices : choices (setup_with 1 1 (CellNo 0 ∷ []) (1 ∷ 1 ∷ []) (1 ∷ 0 ∷ []) (0 ∷ [])) held_lock 6
     ≡ Grant 0 false ∷ Grant 0 true ∷ Grant 0 false ∷ Grant 1 false ∷ Grant 1 false ∷ Grant 1 false ∷ []
-unfolding choices held_lock ended_with free setup_with surw_choice is_due_after intended_after intention_lefts ending_fronts
+unfolding choices held_lock ended_with free setup_with surw_choice is_due_after intended_after intention_lefts ending_prefixes
     narrow answers able_threads bag pick numbers_left events_made earlier position_at words_before seen_at world_after
 held_lock-choices = refl
 
@@ -98,13 +98,13 @@ kept_intention = ended_with
 
 kept_intention-choices : choices (setup_with 1 1 (CellNo 0 ∷ []) (2 ∷ 1 ∷ []) (2 ∷ 0 ∷ 0 ∷ []) (0 ∷ [])) kept_intention 7
     ≡ Grant 0 false ∷ Grant 0 true ∷ Grant 0 false ∷ Grant 1 false ∷ Grant 1 false ∷ Grant 0 false ∷ Grant 1 false ∷ []
-unfolding choices kept_intention ended_with free setup_with surw_choice is_due_after intended_after intention_lefts ending_fronts
+unfolding choices kept_intention ended_with free setup_with surw_choice is_due_after intended_after intention_lefts ending_prefixes
     narrow answers able_threads bag pick numbers_left events_made earlier position_at words_before seen_at world_after
 kept_intention-choices = refl
 
 -- a short selected tape stops where an intention is drawn, not before
 short_tape-choices : choices (setup_with 1 0 (Of Cell ∷ []) (2 ∷ 2 ∷ []) (0 ∷ 1 ∷ 0 ∷ []) []) lost_update 4
     ≡ Grant 0 false ∷ Grant 1 false ∷ Grant 0 false ∷ Stop (Short 3) ∷ []
-unfolding choices lost_update ended_with free setup_with surw_choice is_due_after intended_after intention_lefts ending_fronts
+unfolding choices lost_update ended_with free setup_with surw_choice is_due_after intended_after intention_lefts ending_prefixes
     narrow answers able_threads bag pick numbers_left events_made earlier position_at words_before seen_at world_after
 short_tape-choices = refl

@@ -21,7 +21,7 @@ use Rattle.run_rules.specs.Position.{Position, words_before, position_at, seen_a
 use Rattle.run_rules.specs.Run.{GoesOn}
 use Rattle.run_rules.specs.Setup.{Setup}
 use Rattle.run_rules.specs.SurwChoice.{surw_choice}
-use Rattle.run_rules.proofs.Fronts.{IsNext, next-at}
+use Rattle.run_rules.proofs.Prefixes.{IsNext, next-at}
 use Rattle.run_rules.proofs.Words.{has-word}
 use Rattle.selected_order.specs.SelectedOrder.{IsUnforced, IsInDrawnOrder, EndsInOrder}
 use Rattle.selected_order.proofs.InOrder.{IsInOrder, left_of, in-order-none, in-order-more}

@@ -24,9 +24,9 @@ use Rattle.run_rules.specs.Position.{Position, position_of, seen_at}
 use Rattle.run_rules.specs.Setup.{Setup, Script}
 use Rattle.run_rules.specs.Told.{said}
 use Rattle.run_rules.specs.Verdict.{verdict_at, wrong_count, ended, step_limit, deadlock, refused, first_of}
-use Rattle.run_rules.proofs.Fronts.{AtEach, IsNext, next-at, each-front}
-use Rattle.run_rules.proofs.Goings.{GoesOnAfter, going-fronts}
-use Rattle.run_rules.proofs.Scripts.{legal-front, length-words}
+use Rattle.run_rules.proofs.Prefixes.{AtEach, IsNext, next-at, each-prefix}
+use Rattle.run_rules.proofs.Goings.{GoesOnAfter, going-prefixes}
+use Rattle.run_rules.proofs.Scripts.{legal-prefix, length-words}
 use Rattle.run_rules.proofs.Verdicts.{grant-parts, none-verdict, verdict-none}
 use Rattle.run_rules.proofs.Words.{some-able, has-word, length-seen}
 use Rattle.selected_order.specs.SurwScript.{HasEnded, IsTame, EndsUnforced}
@@ -71,41 +71,41 @@ able-said script journal going =
     let within : able.thread < script.setup.threads = omega (arith, word.within, length-words script journal) in
     record { thread = able.thread; event = word.event; within = within; is = sym (word-of script journal able.thread within) ∙ word.word }
 
--- ---- one front after another
+-- ---- one prefix after another
 
--- the choice after a front in order isn't forced
+-- the choice after a prefix in order isn't forced
 pub free-after : (script : Script) (journal : List Entry) → IsDrawable script → IsLegal script journal → AtEach (GoesOnAfter script) journal
     → IsInOrder script.setup journal → HasSaid (said script journal) script.setup.threads → IsFreeChoice script.setup (position_of script journal)
 unfolding position_of
-free-after script journal is legal fronts order going =
+free-after script journal is legal prefixes order going =
     let x : Position = position_of script journal in
     free-choice script.setup x
     (has-narrow script journal is.tame is.selected is.all legal order going)
-    (other-answers script.setup x is.never (no-deadlock script journal legal fronts) (said-able script journal is.tame legal going))
+    (other-answers script.setup x is.never (no-deadlock script journal legal prefixes) (said-able script journal is.tame legal going))
 
--- a front in order, of which no entry is forced
-record IsFreeFront (script : Script) (journal : List Entry) (k : ℕ) : Type 0 where
+-- a prefix in order, of which no entry is forced
+record IsFreePrefix (script : Script) (journal : List Entry) (k : ℕ) : Type 0 where
   order : IsInOrder script.setup (take k journal)
   plain : (j : ℕ) (entry : Entry) → j < k → slice_get journal j ≡ Some entry → entry.forced ≡ false
 
-front-next : (script : Script) (journal : List Entry) (k : ℕ) → IsDrawable script → IsLegal script journal → AtEach (GoesOnAfter script) journal
-    → k < length journal → IsFreeFront script journal k → IsFreeFront script journal (suc k)
+prefix-next : (script : Script) (journal : List Entry) (k : ℕ) → IsDrawable script → IsLegal script journal → AtEach (GoesOnAfter script) journal
+    → k < length journal → IsFreePrefix script journal k → IsFreePrefix script journal (suc k)
 unfolding position_of
-front-next script journal k is legal fronts lt before =
+prefix-next script journal k is legal prefixes lt before =
     let setup : Setup = script.setup in
-    let front : List Entry = take k journal in
-    let x : Position = position_of script front in
+    let prefix : List Entry = take k journal in
+    let x : Position = position_of script prefix in
     let next : IsNext journal k = next-at journal k lt in
     let entry : Entry = next.item in
-    let goes = fronts k entry next.there in
-    let going = able-said script front (verdict-none setup x goes.going).3 in
-    let earlier = each-front (GoesOnAfter script) journal k fronts in
-    let free : IsFreeChoice setup x = free-after script front is (legal-front script journal k legal) earlier before.order going in
+    let goes = prefixes k entry next.there in
+    let going = able-said script prefix (verdict-none setup x goes.going).3 in
+    let earlier = each-prefix (GoesOnAfter script) journal k prefixes in
+    let free : IsFreeChoice setup x = free-after script prefix is (legal-prefix script journal k legal) earlier before.order going in
     let chosen = sym (choice-is setup x is.rule) ∙ goes.chosen in
     let grant = grant-parts entry.thread free.thread entry.forced false (sym chosen ∙ free.chosen) in
     let able = unforced-able setup x entry.thread is.other (chosen ∙ ap (Grant entry.thread) grant.1) in
-    let within : entry.thread < setup.threads = omega (arith, (has-word setup x entry.thread able).within, length-words script front) in
-    let word : get_or x.words entry.thread None ≡ Some entry.event = word-of script front entry.thread within ∙ (legal k entry next.there).announced in
+    let within : entry.thread < setup.threads = omega (arith, (has-word setup x entry.thread able).within, length-words script prefix) in
+    let word : get_or x.words entry.thread None ≡ Some entry.event = word-of script prefix entry.thread within ∙ (legal k entry next.there).announced in
     let one : k + 1 ≡ suc k = omega arith in
     record {
       order = subst (IsInOrder setup) (sym next.cut ∙ ap (λ n. take n journal) one)
@@ -119,12 +119,12 @@ front-next script journal k is legal fronts lt before =
       ];
     }
 
-front-at : (script : Script) (journal : List Entry) (k : ℕ) → IsDrawable script → IsLegal script journal → AtEach (GoesOnAfter script) journal
-    → k ≤ length journal → IsFreeFront script journal k
-front-at script journal zero is legal fronts within =
+prefix-at : (script : Script) (journal : List Entry) (k : ℕ) → IsDrawable script → IsLegal script journal → AtEach (GoesOnAfter script) journal
+    → k ≤ length journal → IsFreePrefix script journal k
+prefix-at script journal zero is legal prefixes within =
     record { order = in-order-none script.setup is.selected.none; plain = λ j entry lt at. absurd (omega (arith, lt)) }
-front-at script journal (suc k) is legal fronts within =
-    front-next script journal k is legal fronts (omega (arith, within)) (front-at script journal k is legal fronts (omega (arith, within)))
+prefix-at script journal (suc k) is legal prefixes within =
+    prefix-next script journal k is legal prefixes (omega (arith, within)) (prefix-at script journal k is legal prefixes (omega (arith, within)))
 
 -- ---- the verdict
 
@@ -175,14 +175,14 @@ pub ends-unforced : EndsUnforced
 ends-unforced script journal rule tame selected other all never run =
     let is : IsDrawable script = record { rule = rule; tame = tame; selected = selected; other = other; all = all; never = never } in
     let legal : IsLegal script journal = run.legal in
-    let fronts : AtEach (GoesOnAfter script) journal = going-fronts script journal legal run.going in
-    let front : IsFreeFront script journal (length journal) = front-at script journal (length journal) is legal fronts (omega arith) in
-    let order : IsInOrder script.setup journal = subst (IsInOrder script.setup) (take-length journal) front.order in (
+    let prefixes : AtEach (GoesOnAfter script) journal = going-prefixes script journal legal run.going in
+    let prefix : IsFreePrefix script journal (length journal) = prefix-at script journal (length journal) is legal prefixes (omega arith) in
+    let order : IsInOrder script.setup journal = subst (IsInOrder script.setup) (take-length journal) prefix.order in (
       elim (some-said (said script journal) script.setup.threads) [
         | inl none ↦ verdict-ended script journal rule tame legal none
         | inr going ↦
-            let none = verdict-going script journal rule tame legal going (free-after script journal is legal fronts order going) in
+            let none = verdict-going script journal rule tame legal going (free-after script journal is legal prefixes order going) in
             absurd (false≢true (sym (ap is_some none) ∙ run.stops))
       ],
-      λ k entry at. front.plain k entry (slice_get_within journal k entry at) at,
+      λ k entry at. prefix.plain k entry (slice_get_within journal k entry at) at,
     )

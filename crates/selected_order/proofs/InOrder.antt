@@ -15,7 +15,7 @@ use Rattle.event_class.specs.declared.pickable.Pickable.{Pickable}
 use Rattle.event_class.specs.Selection.{has}
 use Rattle.walk_rules.specs.declared.picked.Picked.TheVariants.{Grant}
 use Rattle.run_rules.specs.declared.entry.Entry.{Entry}
-use Rattle.run_rules.specs.Intention.{ends_intention, ending_fronts, intention_lefts, intended_by, intended_after}
+use Rattle.run_rules.specs.Intention.{ends_intention, ending_prefixes, intention_lefts, intended_by, intended_after}
 use Rattle.run_rules.specs.Made.{events_made, numbers_left, selected_order}
 use Rattle.run_rules.specs.Position.{Position}
 use Rattle.run_rules.specs.Setup.{Setup}
@@ -49,7 +49,7 @@ left-none selection counts =
     (λ thread below. left-any selection counts [] thread ∙ omega arith)
 
 pub in-order-none : (setup : Setup) → setup.selected.answers [] ≡ Ok [] → IsInOrder setup []
-unfolding intention_lefts ending_fronts selected_order
+unfolding intention_lefts ending_prefixes selected_order
 in-order-none setup none =
     let start : left_of setup [] ≡ setup.counts = left-none setup.selection setup.counts in
     record {
@@ -117,7 +117,7 @@ record IsOneMore (draws all : List ℕ) : Type 0 where
 one-more : (source : Source) (bounds draws all : List ℕ) (bound : ℕ) → IsSource source.answers → source.answers bounds ≡ Ok draws
     → source.answers (bounds ++ bound ∷ []) ≡ Ok all → IsOneMore draws all
 one-more source bounds draws all bound is_source before after =
-    let front : Ok (take (length bounds) all) ≡ Ok draws = sym (is_source.first bounds (bound ∷ []) all after) ∙ before in
+    let prefix : Ok (take (length bounds) all) ≡ Ok draws = sym (is_source.first bounds (bound ∷ []) all after) ∙ before in
     let same : take (length bounds) all ≡ draws = cc in
     let short : length draws ≡ length bounds = is_source.each bounds draws before in
     let long : length all ≡ length bounds + 1 = is_source.each (bounds ++ bound ∷ []) all after ∙ length_push bounds bound in
@@ -125,7 +125,7 @@ one-more source bounds draws all bound is_source before after =
       draw = get_or all (length bounds) 0;
       at = ap (λ n. get_or all n 0) short;
       is = sym (take-length all) ∙ ap (λ n. take n all) long ∙ take_more all (length bounds) 0 (omega (arith, long))
-          ∙ ap (λ front. front ++ get_or all (length bounds) 0 ∷ []) same;
+          ∙ ap (λ prefix. prefix ++ get_or all (length bounds) 0 ∷ []) same;
     }
 
 in-order-take : (setup : Setup) (journal : List Entry) (entry : Entry) → IsSource setup.selected.answers → IsInOrder setup journal

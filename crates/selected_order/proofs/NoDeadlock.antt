@@ -5,7 +5,7 @@ use Rattle.run_rules.specs.Legal.{IsLegal}
 use Rattle.run_rules.specs.Position.{position_at, position_of}
 use Rattle.run_rules.specs.Setup.{Script}
 use Rattle.run_rules.specs.Verdict.{deadlock}
-use Rattle.run_rules.proofs.Fronts.{AtEach, IsNext, next-at}
+use Rattle.run_rules.proofs.Prefixes.{AtEach, IsNext, next-at}
 use Rattle.run_rules.proofs.Goings.{GoesOnAfter}
 use Rattle.run_rules.proofs.Scripts.{script-again}
 use Rattle.run_rules.proofs.Verdicts.{verdict-none}

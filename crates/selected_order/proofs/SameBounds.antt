@@ -3,7 +3,7 @@ use Rattle.std.proofs.Common.{◌≡◌, ◌&&◌, not, true, false, List, [], �
 use Rattle.std.proofs.lemmas.List.{length_push, map-append}
 use Rattle.run_rules.specs.declared.entry.Entry.{Entry}
 use Rattle.run_rules.specs.Asked.{asked_over}
-use Rattle.run_rules.specs.Intention.{ends_intention, ending_fronts, intention_lefts}
+use Rattle.run_rules.specs.Intention.{ends_intention, ending_prefixes, intention_lefts}
 use Rattle.run_rules.specs.Legal.{IsLegal}
 use Rattle.run_rules.specs.Position.{Position, earlier, position_at, position_of}
 use Rattle.run_rules.specs.Setup.{Setup, Script}
@@ -31,7 +31,7 @@ pub record IsStepwise (script : Script) (journal : List Entry) : Type 0 where
   pub bounds : map sum before ≡ asked_over (urw_bounds_at script.setup) (earlier (position_of script journal))
 
 pub stepwise-none : (script : Script) → IsStepwise script []
-unfolding intention_lefts ending_fronts earlier position_of
+unfolding intention_lefts ending_prefixes earlier position_of
 stepwise-none script = record { before = []; asked = refl; bounds = refl }
 
 -- the positions before an entry more are those so far, and this one

@@ -16,7 +16,7 @@ use Rattle.run_rules.specs.Legal.{IsLegal, IsLegalNext}
 use Rattle.run_rules.specs.Made.{events_made}
 use Rattle.run_rules.specs.Setup.{Script}
 use Rattle.run_rules.specs.Told.{replies_told}
-use Rattle.run_rules.proofs.Fronts.{IsNext, next-at}
+use Rattle.run_rules.proofs.Prefixes.{IsNext, next-at}
 use Rattle.run_rules.proofs.Journals.{told-other, told-same}
 use Rattle.run_rules.proofs.Numbers.{left-any, left-more, made-more}
 use Rattle.selected_order.specs.SurwScript.{IsTame}
@@ -34,7 +34,7 @@ pub record SaysSoMany (script : Script) : Type 0 where
       → (world : WorldState) → IsTrue (is_enabled world event)
   pub short : sum script.setup.counts ≤ script.setup.max_steps
 
--- after a front of a legal journal each thread was told a reply for each event that it made, and made no more than
+-- after a prefix of a legal journal each thread was told a reply for each event that it made, and made no more than
 -- counted; the entries and what is left are the sum of the counts
 record IsOnCount (script : Script) (journal : List Entry) : Type 0 where
   told : (thread : ℕ) → length (replies_told journal thread) ≡ events_made script.setup.selection journal thread

@@ -22,9 +22,9 @@ use Rattle.run_rules.specs.SurwChoice.{surw_choice}
 use Rattle.run_rules.specs.UrwChoice.{urw_bounds_at, urw_choice}
 use Rattle.run_rules.specs.Verdict.{first_miscounted, wrong_count, ended, step_limit, deadlock, refused, first_of, verdict_at}
 use Rattle.run_rules.proofs.Counts.{none-miscounted}
-use Rattle.run_rules.proofs.Fronts.{AtEach, IsNext, next-at, each-front}
-use Rattle.run_rules.proofs.Goings.{GoesOnAfter, fronts-going, going-fronts}
-use Rattle.run_rules.proofs.Scripts.{legal-front}
+use Rattle.run_rules.proofs.Prefixes.{AtEach, IsNext, next-at, each-prefix}
+use Rattle.run_rules.proofs.Goings.{GoesOnAfter, prefixes-going, going-prefixes}
+use Rattle.run_rules.proofs.Scripts.{legal-prefix}
 use Rattle.run_rules.proofs.Verdicts.{grant-parts, verdict-none}
 use Rattle.selected_order.specs.SurwIsUrw.{SurwIsUrw, setup_under, under}
 use Rattle.selected_order.proofs.EndsInOrder.{choice-is}
@@ -83,39 +83,39 @@ verdict-same setup x rule same =
     ∙ last-same wrong (ended x) (step_limit setup x) (deadlock setup x) (refused n (surw_choice setup x)) (refused n (urw_choice setup x))
     (λ counted more short able. ap (refused n) (same (none-counted setup x rule (wrong-is setup x rule ∙ counted)) able))
 
--- ---- one front after another
+-- ---- one prefix after another
 
 same-at : (script : Script) (journal : List Entry) → IsSame script → IsLegal script journal → AtEach (GoesOnAfter script) journal → IsStepwise script journal
     → first_miscounted script.setup (position_of script journal) ≡ None → deadlock script.setup (position_of script journal) ≡ None
     → surw_choice script.setup (position_of script journal) ≡ urw_choice script.setup (position_of script journal)
 unfolding position_of
-same-at script journal is legal fronts step counted going =
+same-at script journal is legal prefixes step counted going =
     choice-same script journal is.every legal step counted going is.selected is.other
-    (other-answers script.setup (position_of script journal) is.never (no-deadlock script journal legal fronts) going)
+    (other-answers script.setup (position_of script journal) is.never (no-deadlock script journal legal prefixes) going)
 
 step-next : (script : Script) (journal : List Entry) (k : ℕ) → IsSame script → IsLegal script journal → AtEach (GoesOnAfter script) journal
     → k < length journal → IsStepwise script (take k journal) → IsStepwise script (take (suc k) journal)
-step-next script journal k is legal fronts lt step =
+step-next script journal k is legal prefixes lt step =
     let setup : Setup = script.setup in
-    let front : List Entry = take k journal in
-    let x : Position = position_of script front in
+    let prefix : List Entry = take k journal in
+    let x : Position = position_of script prefix in
     let next : IsNext journal k = next-at journal k lt in
     let entry : Entry = next.item in
-    let goes = fronts k entry next.there in
+    let goes = prefixes k entry next.there in
     let parts = verdict-none setup x goes.going in
     let counted = none-counted setup x is.rule parts.0 in
-    let before : IsLegal script front = legal-front script journal k legal in
-    let same = same-at script front is before (each-front (GoesOnAfter script) journal k fronts) step counted parts.3 in
+    let before : IsLegal script prefix = legal-prefix script journal k legal in
+    let same = same-at script prefix is before (each-prefix (GoesOnAfter script) journal k prefixes) step counted parts.3 in
     let free = urw-free setup x entry.thread entry.forced (sym same ∙ sym (choice-is setup x is.rule) ∙ goes.chosen) in
     let one : k + 1 ≡ suc k = omega arith in
     subst (IsStepwise script) (sym next.cut ∙ ap (λ n. take n journal) one)
-    (stepwise-more script front entry is.every before counted (legal k entry next.there).announced free step)
+    (stepwise-more script prefix entry is.every before counted (legal k entry next.there).announced free step)
 
 step-at : (script : Script) (journal : List Entry) (k : ℕ) → IsSame script → IsLegal script journal → AtEach (GoesOnAfter script) journal
     → k ≤ length journal → IsStepwise script (take k journal)
-step-at script journal zero is legal fronts within = stepwise-none script
-step-at script journal (suc k) is legal fronts within =
-    step-next script journal k is legal fronts (omega (arith, within)) (step-at script journal k is legal fronts (omega (arith, within)))
+step-at script journal zero is legal prefixes within = stepwise-none script
+step-at script journal (suc k) is legal prefixes within =
+    step-next script journal k is legal prefixes (omega (arith, within)) (step-at script journal k is legal prefixes (omega (arith, within)))
 
 -- the rule is no part of what is legal
 pub legal-under : (script : Script) (rule other : Rule) (journal : List Entry) → IsLegal (under rule script) journal → IsLegal (under other script) journal
@@ -128,18 +128,18 @@ legal-again script rule journal legal k entry at =
     let next = legal k entry at in
     record { announced = next.announced; enabled = next.enabled; replied = next.replied }
 
--- after each front the run under URW goes on with the same entry
-urw-fronts : (script : Script) (journal : List Entry) → IsSame script → IsLegal script journal → AtEach (GoesOnAfter script) journal
+-- after each prefix the run under URW goes on with the same entry
+urw-prefixes : (script : Script) (journal : List Entry) → IsSame script → IsLegal script journal → AtEach (GoesOnAfter script) journal
     → AtEach (GoesOnAfter (under Urw script)) journal
 unfolding position_of
-urw-fronts script journal is legal fronts k entry at =
+urw-prefixes script journal is legal prefixes k entry at =
     let setup : Setup = script.setup in
-    let front : List Entry = take k journal in
-    let x : Position = position_of script front in
-    let goes = fronts k entry at in
+    let prefix : List Entry = take k journal in
+    let x : Position = position_of script prefix in
+    let goes = prefixes k entry at in
     let parts = verdict-none setup x goes.going in
-    let step : IsStepwise script front = step-at script journal k is legal fronts (omega (arith, slice_get_within journal k entry at)) in
-    let same = same-at script front is (legal-front script journal k legal) (each-front (GoesOnAfter script) journal k fronts) step in
+    let step : IsStepwise script prefix = step-at script journal k is legal prefixes (omega (arith, slice_get_within journal k entry at)) in
+    let same = same-at script prefix is (legal-prefix script journal k legal) (each-prefix (GoesOnAfter script) journal k prefixes) step in
     record {
       going = sym (verdict-same setup x is.rule same) ∙ goes.going;
       chosen = urw-under setup x ∙ sym (same (none-counted setup x is.rule parts.0) parts.3) ∙ sym (choice-is setup x is.rule) ∙ goes.chosen;
@@ -157,14 +157,14 @@ surw-is-urw plain counted selected other never journal every free run =
       never = never;
     } in
     let legal : IsLegal script journal = run.legal in
-    let fronts : AtEach (GoesOnAfter script) journal = going-fronts script journal legal run.going in
+    let prefixes : AtEach (GoesOnAfter script) journal = going-prefixes script journal legal run.going in
     let step : IsStepwise script journal =
-    subst (IsStepwise script) (take-length journal) (step-at script journal (length journal) is legal fronts (omega arith)) in
-    let same = verdict-same script.setup (position_of script journal) refl (same-at script journal is legal fronts step) in
+    subst (IsStepwise script) (take-length journal) (step-at script journal (length journal) is legal prefixes (omega arith)) in
+    let same = verdict-same script.setup (position_of script journal) refl (same-at script journal is legal prefixes step) in
     let again : IsLegal (under Urw plain) journal = legal-under plain Surw Urw journal legal in (
       record {
         legal = again;
-        going = fronts-going (under Urw plain) journal again (urw-fronts script journal is legal fronts);
+        going = prefixes-going (under Urw plain) journal again (urw-prefixes script journal is legal prefixes);
         stops = subst (λ (v : Option Verdict). IsSome v) same run.stops;
       },
       same,

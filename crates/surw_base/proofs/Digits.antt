@@ -10,7 +10,7 @@ use Rattle.std.specs.Char.{digit_value}
 use Rattle.std.specs.Int.{IsInRange}
 use Rattle.std.specs.Fmt.{decimal}
 use Rattle.std.specs.Str.Parse.{digits_value}
-use Rattle.surw_base.specs.Front.{IsLongestFront, HasNoFront}
+use Rattle.surw_base.specs.Prefix.{IsLongestPrefix, HasNoPrefix}
 use Rattle.surw_base.specs.Number.{IsNumberText}
 
 -- the first `len` bytes are the digits of `value`
@@ -20,18 +20,18 @@ pub record AreRead (text : List ℕ) (value len : ℕ) : Type 0 where
   pub some : 0 < len → 0 < value
   pub below : value < 2 ^ 64
 
--- each byte of a front that is a number is a digit
-pub digit-front : (text : List ℕ) (n w k : ℕ) → n ≤ length text → IsNumberText (take n text) w → k < n → IsInRange 48 57 (get_or text k 0)
-digit-front text n w k within is lt =
+-- each byte of a prefix that is a number is a digit
+pub digit-prefix : (text : List ℕ) (n w k : ℕ) → n ≤ length text → IsNumberText (take n text) w → k < n → IsInRange 48 57 (get_or text k 0)
+digit-prefix text n w k within is lt =
     let numeral = (decimal_is_IsNumeral w is.below).0 in
     let long : length (take n text) ≡ n = length-take-le n text within in
     let same : length (decimal w) ≡ n = sym (ap length is.digits) ∙ long in
     let digit = digit_at (decimal w) k numeral.1 (omega arith) in
     subst (IsInRange 48 57) (ap (λ (l : List ℕ). get_or l k 0) (sym is.digits) ∙ get_or-take n text k 0 lt) digit
 
--- a front that is a number has a byte
-pub some-front : (text : List ℕ) (n w : ℕ) → n ≤ length text → IsNumberText (take n text) w → 0 < n
-some-front text n w within is =
+-- a prefix that is a number has a byte
+pub some-prefix : (text : List ℕ) (n w : ℕ) → n ≤ length text → IsNumberText (take n text) w → 0 < n
+some-prefix text n w within is =
     let numeral = (decimal_is_IsNumeral w is.below).0 in
     let long : length (take n text) ≡ n = length-take-le n text within in
     omega (arith, numeral.0, ap length is.digits)
@@ -41,11 +41,11 @@ value-read : (text : List ℕ) (value len : ℕ) → AreRead text value len → 
 value-read text value zero read = sym (read.start refl)
 value-read text value (suc k) read = ap (digits_value 10) (read.digits (omega arith)) ∙ (decimal_is_IsNumeral value read.below).1
 
--- a longer front that is a number is at least what the digits read and the next one write
-pub longer-front : (text : List ℕ) (value len n w : ℕ) → AreRead text value len → n ≤ length text → IsNumberText (take n text) w → len < n
+-- a longer prefix that is a number is at least what the digits read and the next one write
+pub longer-prefix : (text : List ℕ) (value len n w : ℕ) → AreRead text value len → n ≤ length text → IsNumberText (take n text) w → len < n
     → value * 10 + (get_or text len 0 - 48) ≤ w
-longer-front text value len n w read within is lt =
-    let digit = digit-front text n w len within is lt in
+longer-prefix text value len n w read within is lt =
+    let digit = digit-prefix text n w len within is lt in
     let more = digits_value_more 10 text len (omega arith) in
     let one = digit_value_digit (get_or text len 0) digit in
     let whole : digits_value 10 (take n text) ≡ w = ap (digits_value 10) is.digits ∙ (decimal_is_IsNumeral w is.below).1 in
@@ -70,11 +70,11 @@ one-more text value (suc k) read lt digit first small =
     let b : ℕ = get_or text (suc k) 0 in
     let some : 0 < value = read.some (omega arith) in
     let m : ℕ = value * 10 + (b - 48) in
-    let front : m / 10 ≡ value = omega arith in
+    let prefix : m / 10 ≡ value = omega arith in
     let end : 48 + m % 10 ≡ b = omega arith in
     record {
       digits = λ _. take_more text (suc k) 0 lt ∙ ap (λ (l : List ℕ). l ++ b ∷ []) (read.digits (omega arith))
-          ∙ sym (decimal_step m (omega arith) small ∙ (λ i. decimal (front i) ++ (end i ∷ [])));
+          ∙ sym (decimal_step m (omega arith) small ∙ (λ i. decimal (prefix i) ++ (end i ∷ [])));
       start = λ e. absurd (omega arith);
       some = λ _. omega arith;
       below = small;
@@ -82,10 +82,10 @@ one-more text value (suc k) read lt digit first small =
 
 -- nothing longer is a number where the next byte is no digit, or the number would be too large
 pub longest : (text : List ℕ) (value len : ℕ) → AreRead text value len → 0 < len → len ≤ length text
-    → ((n w : ℕ) → len < n → n ≤ length text → IsNumberText (take n text) w → ⊥) → IsLongestFront IsNumberText text value len
+    → ((n w : ℕ) → len < n → n ≤ length text → IsNumberText (take n text) w → ⊥) → IsLongestPrefix IsNumberText text value len
 longest text value len read some within none = record {
   within = within;
-  front = record { digits = read.digits some; below = read.below };
+  prefix = record { digits = read.digits some; below = read.below };
   longest = λ n w. none n w;
 }
 
@@ -94,19 +94,19 @@ pub past-first : (P : ℕ → Type 0) (text : List ℕ) (len : ℕ) → P (get_o
 past-first P text zero here none = absurd (none here)
 past-first P text (suc k) here none = omega arith
 
--- no front of an empty text is a number
-pub none-empty : (text : List ℕ) → length text < 1 → HasNoFront IsNumberText text
-none-empty text empty n w within is = omega (arith, some-front text n w within is)
+-- no prefix of an empty text is a number
+pub none-empty : (text : List ℕ) → length text < 1 → HasNoPrefix IsNumberText text
+none-empty text empty n w within is = omega (arith, some-prefix text n w within is)
 
 -- nor of one whose first byte is no digit
-pub none-other : (text : List ℕ) → (IsInRange 48 57 (get_or text 0 0) → ⊥) → HasNoFront IsNumberText text
-none-other text other n w within is = other (digit-front text n w 0 within is (some-front text n w within is))
+pub none-other : (text : List ℕ) → (IsInRange 48 57 (get_or text 0 0) → ⊥) → HasNoPrefix IsNumberText text
+none-other text other n w within is = other (digit-prefix text n w 0 within is (some-prefix text n w within is))
 
--- a zero at the front is a number, and no longer front is one
-pub zero-front : (text : List ℕ) → 0 < length text → get_or text 0 0 ≡ 48 → IsLongestFront IsNumberText text 0 1
-zero-front text some first = record {
+-- a zero at the front is a number, and no longer prefix is one
+pub zero-prefix : (text : List ℕ) → 0 < length text → get_or text 0 0 ≡ 48 → IsLongestPrefix IsNumberText text 0 1
+zero-prefix text some first = record {
   within = some;
-  front = record { digits = take_more text 0 0 some ∙ ap (λ (b : ℕ). b ∷ []) first ∙ sym (decimal_digit 0 (omega arith)); below = omega arith };
+  prefix = record { digits = take_more text 0 0 some ∙ ap (λ (b : ℕ). b ∷ []) first ∙ sym (decimal_digit 0 (omega arith)); below = omega arith };
   longest = λ n w lt within is. elim (cases_lt 0 w) [
     | inl more ↦
         let high = first_decimal w more is.below in

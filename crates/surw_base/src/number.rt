@@ -1,18 +1,18 @@
 ghost use Rattle.std.specs.Prelude.{◌≡◌, ◌<◌, ◌≤◌, ◌++◌, length, take, slice_index, OnOk, OnErr, MatchOption};
 ghost use Rattle.std.specs.Int.{IsInRange};
 ghost use Rattle.std.specs.Fmt.{decimal};
-ghost use Rattle.surw_base.specs.Front.{IsLongestFront, HasNoFront};
+ghost use Rattle.surw_base.specs.Prefix.{IsLongestPrefix, HasNoPrefix};
 ghost use Rattle.surw_base.specs.Number.{IsNumberText};
 
 use crate::OutOfMemory;
 use itoa::Buffer;
 
-/// The longest front of a text that is a decimal number below 2^64 without leading zeros, and how many
-/// bytes it has. None exactly where no front is one.
+/// The longest prefix of a text that is a decimal number below 2^64 without leading zeros, and how many
+/// bytes it has. None exactly where no prefix is one.
 pub fn read_number(text: &[u8]) -> Option<(u64, usize)>
     ensures { MatchOption result
-        (HasNoFront IsNumberText text.now)
-        (λ found. IsLongestFront IsNumberText text.now found.0 found.1) }
+        (HasNoPrefix IsNumberText text.now)
+        (λ found. IsLongestPrefix IsNumberText text.now found.0 found.1) }
 {
     if text.is_empty() || !text[0].is_ascii_digit() {
         return None;
@@ -27,7 +27,7 @@ pub fn read_number(text: &[u8]) -> Option<(u64, usize)>
 fn read_digits(text: &[u8]) -> (u64, usize)
     requires some { 0 < length text.now }
     requires first { IsInRange 49 57 (slice_index text.now 0) }
-    ensures { IsLongestFront IsNumberText text.now result.0 result.1 }
+    ensures { IsLongestPrefix IsNumberText text.now result.0 result.1 }
 {
     let mut value = 0u64;
     for (len, byte) in text.iter().enumerate() {
@@ -81,7 +81,7 @@ mod tests {
     }
 
     #[test]
-    fn the_longest_front_is_read(rt: HostRuntime) {
+    fn the_longest_prefix_is_read(rt: HostRuntime) {
         for (text, number, len) in [
             ("12x", 12, 2),
             ("01", 0, 1),

@@ -37,13 +37,13 @@ pub record Continues (all numbers rest : List ℕ) : Type 0 where
 
 -- the numbers are read from the front of the items, and each reading of all the items begins with them
 pub record AreRead (items rest numbers : List ℕ) : Type 0 where
-  pub front : items ≡ items_text numbers ++ rest
+  pub prefix : items ≡ items_text numbers ++ rest
   pub below : AllBelow numbers
   pub only : (all : List ℕ) → items ≡ items_text all → AllBelow all → Continues all numbers rest
 
 pub none-read : (items : List ℕ) → AreRead items items []
 none-read items = record {
-  front = refl;
+  prefix = refl;
   below = below-none;
   only = λ all is below. record { more = all; joined = refl; spelled = is; below = below };
 }
@@ -68,7 +68,7 @@ continues-more all numbers rest n after item only (m ∷ ms) joined spelled belo
 pub more-read : (items rest numbers : List ℕ) (n : ℕ) (after : List ℕ) → AreRead items rest numbers → IsItem rest n after → IsOnlyItem rest n after
     → AreRead items after (numbers ++ n ∷ [])
 more-read items rest numbers n after read item only = record {
-  front = read.front ∙ ap (λ (l : List ℕ). items_text numbers ++ l) item.spelled
+  prefix = read.prefix ∙ ap (λ (l : List ℕ). items_text numbers ++ l) item.spelled
       ∙ sym (append_assoc (items_text numbers) (32 ∷ decimal n) after)
       ∙ ap (λ (l : List ℕ). l ++ after) (ap (λ (l : List ℕ). items_text numbers ++ l) (sym (append-nil (32 ∷ decimal n))) ∙ sym (flat_map-append (λ (k : ℕ). 32 ∷ decimal k) numbers (n ∷ [])));
   below = All-append (λ k. k < 2 ^ 64) numbers (n ∷ []) read.below (below-one n item.below);
@@ -95,7 +95,7 @@ no-more (m ∷ ms) e = cc e
 
 -- where nothing is left, these are the numbers
 pub read-whole : (items rest numbers : List ℕ) → AreRead items rest numbers → rest ≡ [] → items ≡ items_text numbers
-read-whole items rest numbers read done = read.front ∙ ap (λ (l : List ℕ). items_text numbers ++ l) done ∙ append-nil (items_text numbers)
+read-whole items rest numbers read done = read.prefix ∙ ap (λ (l : List ℕ). items_text numbers ++ l) done ∙ append-nil (items_text numbers)
 
 pub read-only : (items rest numbers all : List ℕ) → AreRead items rest numbers → rest ≡ [] → items ≡ items_text all → AllBelow all → numbers ≡ all
 read-only items rest numbers all read done is below =

@@ -20,13 +20,13 @@ pub record IsReadLine (thread : ℕ) (offsets line : List ℕ) : Type 0 where
 -- the lines of the threads below this one are read from the front of the text
 pub record AreReadLines (text rest : List ℕ) (lists : List (List ℕ)) (thread : ℕ) : Type 0 where
   pub done : List (List ℕ)
-  pub front : lines_of text ≡ done ++ lines_of rest
+  pub prefix : lines_of text ≡ done ++ lines_of rest
   pub long : length done ≡ thread
   pub full : length lists ≡ thread
   pub each : (k : ℕ) → k < thread → IsReadLine k (get_or lists k []) (get_or done k [])
 
 pub no-lines_read : (text : List ℕ) → AreReadLines text text [] 0
-no-lines_read text = record { done = []; front = refl; long = refl; full = refl; each = λ k lt. absurd (omega arith) }
+no-lines_read text = record { done = []; prefix = refl; long = refl; full = refl; each = λ k lt. absurd (omega arith) }
 
 same-read : (k : ℕ) (offsets others line other : List ℕ) → others ≡ offsets → other ≡ line → IsReadLine k offsets line → IsReadLine k others other
 same-read k offsets others line other e f read =
@@ -38,7 +38,7 @@ pub line-more : (text rest after : List ℕ) (lists more : List (List ℕ)) (thr
 line-more text rest after lists more thread offsets line read next is pushed =
     subst (λ (ls : List (List ℕ)). AreReadLines text after ls (thread + 1)) (sym pushed) record {
       done = read.done ++ line ∷ [];
-      front = read.front ∙ ap (λ (ls : List (List ℕ)). read.done ++ ls) next ∙ sym (append_assoc read.done (line ∷ []) (lines_of after));
+      prefix = read.prefix ∙ ap (λ (ls : List (List ℕ)). read.done ++ ls) next ∙ sym (append_assoc read.done (line ∷ []) (lines_of after));
       long = length-append read.done (line ∷ []) ∙ omega (arith, read.long);
       full = length-append lists (offsets ∷ []) ∙ omega (arith, read.full);
       each = below_more (λ k. IsReadLine k (get_or (lists ++ offsets ∷ []) k []) (get_or (read.done ++ line ∷ []) k [])) thread
@@ -50,7 +50,7 @@ line-more text rest after lists more thread offsets line read next is pushed =
 
 -- where nothing is left, all lines are read
 whole : (text rest : List ℕ) (lists : List (List ℕ)) (thread : ℕ) (read : AreReadLines text rest lists thread) → lines_of rest ≡ [] → lines_of text ≡ read.done
-whole text rest lists thread read none = read.front ∙ ap (λ (ls : List (List ℕ)). read.done ++ ls) none ∙ append-nil read.done
+whole text rest lists thread read none = read.prefix ∙ ap (λ (ls : List (List ℕ)). read.done ++ ls) none ∙ append-nil read.done
 
 pub all-read : (text rest : List ℕ) (lists : List (List ℕ)) (threads : ℕ) → AreReadLines text rest lists threads → lines_of rest ≡ []
     → AreOffsetsLines threads lists (lines_of text)
@@ -79,14 +79,14 @@ too-few text rest lists offsets thread threads read less none are =
 pub too-many : (text rest : List ℕ) (lists offsets : List (List ℕ)) (threads : ℕ) → AreReadLines text rest lists threads → 0 < length (lines_of rest)
     → AreOffsetsLines threads offsets (lines_of text) → ⊥
 too-many text rest lists offsets threads read some are =
-    omega (arith, some, read.long, ap length read.front, length-append read.done (lines_of rest), are.many)
+    omega (arith, some, read.long, ap length read.prefix, length-append read.done (lines_of rest), are.many)
 
 -- the next line has to list the next thread's offsets
 pub next-line : (text rest : List ℕ) (lists offsets : List (List ℕ)) (thread threads : ℕ) (line : List ℕ) (more : List (List ℕ)) → AreReadLines text rest lists thread → thread < threads
     → lines_of rest ≡ line ∷ more → AreOffsetsLines threads offsets (lines_of text) → IsOffsetsLine thread (get_or offsets thread []) line
 next-line text rest lists offsets thread threads line more read less next are =
     let at : get_or (lines_of text) thread [] ≡ line =
-    ap (λ (ls : List (List ℕ)). get_or ls thread []) (read.front ∙ ap (λ (ls : List (List ℕ)). read.done ++ ls) next) ∙ get_or_at read.done line more [] thread read.long in
+    ap (λ (ls : List (List ℕ)). get_or ls thread []) (read.prefix ∙ ap (λ (ls : List (List ℕ)). read.done ++ ls) next) ∙ get_or_at read.done line more [] thread read.long in
     subst (IsOffsetsLine thread (get_or offsets thread [])) at (are.each thread less)
 
 -- the lines so far, behind those of the counts and of the order, are as asked
@@ -116,7 +116,7 @@ pub other-line : (text rest : List ℕ) (lists : List (List ℕ)) (thread thread
     → IsOtherFile (IsFirstWrongLine (IsDrawsLine threads) (threads + 2) (first ∷ second ∷ lines_of text)) (fault_at fault number)
 other-line text rest lists thread threads number first second line more fault read less next only numbered one two =
     wrong-list (IsDrawsLine threads) (threads + 2) number (suc (suc thread)) (first ∷ second ∷ lines_of text) (first ∷ second ∷ read.done) line more fault
-    (ap (λ (ls : List (List ℕ)). first ∷ second ∷ ls) (read.front ∙ ap (λ (ls : List (List ℕ)). read.done ++ ls) next))
+    (ap (λ (ls : List (List ℕ)). first ∷ second ∷ ls) (read.prefix ∙ ap (λ (ls : List (List ℕ)). read.done ++ ls) next))
     (omega (arith, read.long))
     (behind-two text rest lists thread threads first second read (omega (arith, less)) one two)
     (λ right. only right.0 right.2)
@@ -128,7 +128,7 @@ pub extra-line : (text rest : List ℕ) (lists : List (List ℕ)) (threads numbe
     → IsFirstWrongLine (IsDrawsLine threads) (threads + 2) (first ∷ second ∷ lines_of text) number
 extra-line text rest lists threads number first second read some numbered one two =
     wrong-extra (IsDrawsLine threads) (threads + 2) number (suc (suc threads)) (first ∷ second ∷ lines_of text) (first ∷ second ∷ read.done) (lines_of rest)
-    (ap (λ (ls : List (List ℕ)). first ∷ second ∷ ls) read.front) some
+    (ap (λ (ls : List (List ℕ)). first ∷ second ∷ ls) read.prefix) some
     (omega (arith, read.long))
     (behind-two text rest lists threads threads first second read (omega arith) one two)
     (λ line right. let high : threads < threads = right.1 in omega (arith, high))

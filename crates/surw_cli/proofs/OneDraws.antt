@@ -64,10 +64,10 @@ same-threads bytes number other is twin behind =
 
 -- a wrong line behind the first leaves no wrong first line
 first-right : (bytes : List ℕ) (number other : ℕ) (is : IsOtherDraws bytes number) (twin : IsOtherDraws bytes other) → 0 < is.first.place → twin.first.place ≡ 0 → ⊥
-first-right bytes number other is twin behind front =
+first-right bytes number other is twin behind prefix =
     let listed = is.first.before 0 behind in
     let wrong : 0 < length (lines_of bytes) → IsDrawsLine twin.threads 0 (get_or (lines_of bytes) 0 []) → ⊥ =
-    subst (λ (k : ℕ). k < length (lines_of bytes) → IsDrawsLine twin.threads k (get_or (lines_of bytes) k []) → ⊥) front twin.first.wrong in
+    subst (λ (k : ℕ). k < length (lines_of bytes) → IsDrawsLine twin.threads k (get_or (lines_of bytes) k []) → ⊥) prefix twin.first.wrong in
     wrong listed.0 listed.1
 
 -- a number that is 0 or more
@@ -83,9 +83,9 @@ other-behind bytes number other is twin behind =
 other-one : (bytes : List ℕ) (number other : ℕ) → IsOtherDraws bytes number → IsOtherDraws bytes other → other ≡ number
 other-one bytes number other is twin = elim (zero-or is.first.place) [
   | inr behind ↦ other-behind bytes number other is twin behind
-  | inl front ↦ elim (zero-or twin.first.place) [
-    | inr behind ↦ absurd (first-right bytes other number twin is behind front)
-    | inl both ↦ omega (arith, front, both, is.first.numbered, twin.first.numbered)
+  | inl prefix ↦ elim (zero-or twin.first.place) [
+    | inr behind ↦ absurd (first-right bytes other number twin is behind prefix)
+    | inl both ↦ omega (arith, prefix, both, is.first.numbered, twin.first.numbered)
   ]
 ]
 

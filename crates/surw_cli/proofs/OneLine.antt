@@ -1,7 +1,7 @@
 -- A line lists one list of numbers.
 use Rattle.std.proofs.Common.{◌≡◌, ℕ, List, [], ◌∷◌, ◌++◌, length, drop, refl, ap, sym, ◌∙◌}
 use Rattle.std.specs.Fmt.{decimal}
-use Rattle.surw_base.proofs.Fronts.{number-again, number-front}
+use Rattle.surw_base.proofs.Prefixes.{number-again, number-prefix}
 use Rattle.surw_cli.specs.Lines.{IsListLine, items_text}
 use Rattle.surw_cli.proofs.ItemLemmas.{AllBelow, below-head, below-tail, behind-word, items-no_digit}
 
@@ -12,9 +12,9 @@ items-one [] (m ∷ ms) below beneath same = cc same
 items-one (n ∷ ns) [] below beneath same = cc same
 items-one (n ∷ ns) (m ∷ ms) below beneath same =
     let text : List ℕ = decimal n ++ items_text ns in
-    let front = number-front n (items_text ns) (below-head n ns below) (items-no_digit ns) in
-    let here = number-again text (items_text ns) n n (length (decimal n)) refl (below-head n ns below) (items-no_digit ns) front in
-    let there = number-again text (items_text ms) m n (length (decimal n)) (ap (λ (l : List ℕ). drop 1 l) same) (below-head m ms beneath) (items-no_digit ms) front in
+    let prefix = number-prefix n (items_text ns) (below-head n ns below) (items-no_digit ns) in
+    let here = number-again text (items_text ns) n n (length (decimal n)) refl (below-head n ns below) (items-no_digit ns) prefix in
+    let there = number-again text (items_text ms) m n (length (decimal n)) (ap (λ (l : List ℕ). drop 1 l) same) (below-head m ms beneath) (items-no_digit ms) prefix in
     let rest : ns ≡ ms = items-one ns ms (below-tail n ns below) (below-tail m ms beneath) (sym here.1 ∙ there.1) in
     (λ i. there.0 i ∷ rest i)
 

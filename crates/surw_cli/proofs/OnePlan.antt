@@ -4,7 +4,7 @@ use Rattle.report_text.specs.Report.{report_text}
 use Rattle.routine_kit.specs.AnyRoutine as routine
 use Rattle.routine_kit.specs.declared.any_routine.AnyRoutine.{AnyRoutine}
 use Rattle.run_rules.proofs.Tellings.{telling-one}
-use Rattle.run_rules.specs.Run.{IsRun, Ran}
+use Rattle.run_rules.specs.Run.{IsRun, Outcome}
 use Rattle.run_rules.specs.Setup.{Script}
 use Rattle.run_rules.specs.Told.{routines_say}
 use Rattle.run_rules.specs.declared.plan.Plan.{Plan}
@@ -48,11 +48,11 @@ script-one scenario choice counts plan twin is are =
     })
 
 -- a scenario has one run
-ran-one : (scenario : ScenarioState) (ran other : Ran) → IsRunOf scenario ran → IsRunOf scenario other → other ≡ ran
-ran-one scenario ran other is twin =
+outcome-one : (scenario : ScenarioState) (outcome other : Outcome) → IsRunOf scenario outcome → IsRunOf scenario other → other ≡ outcome
+outcome-one scenario outcome other is twin =
     let same : script twin.plan ≡ script is.plan =
     script-one scenario no_choice (counts_by scenario.strategy scenario) is.plan twin.plan is.planned twin.planned in
-    telling-one (script is.plan) ran other is.run (subst (λ (s : Script). IsRun s other) same twin.run)
+    telling-one (script is.plan) outcome other is.run (subst (λ (s : Script). IsRun s other) same twin.run)
 
 -- the bytes are no scenario
 record IsUnformed (bytes : List ℕ) (answer : Answer) : Type 0 where
@@ -64,9 +64,9 @@ record IsUnformed (bytes : List ℕ) (answer : Answer) : Type 0 where
 record IsPlanned (bytes : List ℕ) (answer : Answer) : Type 0 where
   pub scenario : ScenarioState
   pub form : scenario_of bytes ≡ Ok scenario
-  pub ran : Ran
-  pub run : IsRunOf scenario ran
-  pub is : answer ≡ Report (status_of_run ran) (report_text ran)
+  pub outcome : Outcome
+  pub run : IsRunOf scenario outcome
+  pub is : answer ≡ Report (status_of_run outcome) (report_text outcome)
 
 -- what the job makes of a file's bytes
 pub IsPlanMade : List ℕ → Answer → Type 0
@@ -85,8 +85,8 @@ planned-one : (bytes : List ℕ) (answer other : Answer) → IsPlanned bytes ans
 planned-one bytes answer other is twin =
     let results : Ok twin.scenario ≡ Ok is.scenario = sym twin.form ∙ is.form in
     let scenarios : twin.scenario ≡ is.scenario = cc results in
-    let ran : twin.ran ≡ is.ran = ran-one is.scenario is.ran twin.ran is.run (subst (λ (s : ScenarioState). IsRunOf s twin.ran) scenarios twin.run) in
-    twin.is ∙ ap (λ (r : Ran). Report (status_of_run r) (report_text r)) ran ∙ sym is.is
+    let outcome : twin.outcome ≡ is.outcome = outcome-one is.scenario is.outcome twin.outcome is.run (subst (λ (s : ScenarioState). IsRunOf s twin.outcome) scenarios twin.run) in
+    twin.is ∙ ap (λ (r : Outcome). Report (status_of_run r) (report_text r)) outcome ∙ sym is.is
 
 pub made-one : MakesOne IsPlanMade
 unfolding IsPlanMade
@@ -104,7 +104,7 @@ as-file coming (Report status text) is = inr (inr record {
   made = inr record {
     scenario = is.scenario;
     form = is.file.form;
-    ran = is.ran;
+    outcome = is.outcome;
     run = is.run;
     is = (λ i. Report (is.ends i) (is.printed i));
   };

@@ -1,7 +1,7 @@
 -- Why a job stops at a file that is no order file, and how a job that stopped ends.
 use Rattle.std.proofs.Common.{Bool, true, false, cond, is_some, subst, sym, Result, Ok, Err, OnOk, OnErr, inl, inr, ⊎_elim, ◌⊎◌, ◌≡◌, ℕ, List, Option, refl}
 use Rattle.surw_io.specs.Cause.{HasCause}
-use Rattle.surw_io.specs.Content.{Entry, HoldsFront, with_end}
+use Rattle.surw_io.specs.Content.{Entry, HoldsPrefix, with_end}
 use Rattle.std.specs.List.{list_any}
 use Rattle.run_rules.specs.declared.verdict.Verdict.{Verdict}
 use Rattle.run_rules.specs.declared.verdict.Verdict.TheVariants as verdict
@@ -9,7 +9,7 @@ use Rattle.surw_cli.specs.Answer.{HasFile, IsAnswer, IsJobAnswer, Report}
 use Rattle.surw_cli.specs.DrawsFile.{IsOtherDraws}
 use Rattle.surw_cli.specs.FileFault.{IsOtherFile}
 use Rattle.surw_cli.specs.OrderFile.{IsOtherOrder}
-use Rattle.surw_cli.specs.Ending.{Call, Ends, IsCalm, WasReported, Wrote, WroteFront}
+use Rattle.surw_cli.specs.Ending.{Call, Ends, IsCalm, WasReported, Wrote, WrotePrefix}
 use Rattle.surw_cli.specs.Fault.{fault_text, status_of}
 use Rattle.surw_cli.specs.Stop.{IsJobStop, IsStop, stop_of_file}
 use Rattle.surw_cli.specs.declared.fault.Fault.{Fault}
@@ -38,7 +38,7 @@ draws_file-stop coming before now bytes file.OutOfMemory held calm other = calm
 
 -- a job that stopped at a fault, whose line was written or begun, ends with the fault's status
 pub refusal-ends : (call : Call) (fault : Fault) → IsStop call.words call.coming call.shelf_before call.shelf_now (Refused fault)
-    → Wrote call (fault_text fault) ⊎ WroteFront call (fault_text fault) → Ends call (status_of fault)
+    → Wrote call (fault_text fault) ⊎ WrotePrefix call (fault_text fault) → Ends call (status_of fault)
 refusal-ends call Words stop told = record { fault = Words; is = refl; cause = stop.1; told = told; calm = stop.0 }
 refusal-ends call (Lines number) stop told = inl (record { fault = Lines number; is = refl; cause = stop.1; told = told; calm = stop.0 })
 refusal-ends call Read stop told = record { cause = stop; told = told }
@@ -51,7 +51,7 @@ refusal-ends call (TooLong limit) stop told = record { fault = TooLong limit; is
 
 -- a job whose file is no scenario, and the fault's line was written or begun, ends with the status of a wrong form
 pub unformed-ends : (call : Call) (fault : ScenarioFault) → IsStop call.words call.coming call.shelf_before call.shelf_now (Unformed fault)
-    → Wrote call (scenario_fault_text fault) ⊎ WroteFront call (scenario_fault_text fault) → Ends call Form
+    → Wrote call (scenario_fault_text fault) ⊎ WrotePrefix call (scenario_fault_text fault) → Ends call Form
 unformed-ends call fault stop told = inr (record { fault = fault; cause = stop.1; told = told; calm = stop.0 })
 
 -- a status that a report can end with
@@ -86,7 +86,7 @@ reportable-job Order coming _ text answered = absurd answered
 reportable-job Draws coming Done text answered = tt
 reportable-job Draws coming _ text answered = absurd answered
 reportable-job Plan coming status text answered =
-    subst (λ s. IsReportable s) (sym answered.ends) (reportable-run answered.ran.verdict (list_any is_some answered.ran.failed))
+    subst (λ s. IsReportable s) (sym answered.ends) (reportable-run answered.outcome.verdict (list_any is_some answered.outcome.failed))
 
 reported-ends : (call : Call) (status : Status) → IsReportable status → WasReported call status → Ends call status
 unfolding IsReportable
@@ -104,8 +104,8 @@ report-ends call status text cause told calm =
     reported-ends call status (reportable-job cause.job (call.coming cause.name) status text cause.answered)
     (record { text = text; cause = cause; told = told; calm = calm })
 
--- what a writer of a text leaves: all of it, or a front where the sink failed
+-- what a writer of a text leaves: all of it, or a prefix where the sink failed
 pub told : {A E : Type 0} (call : Call) (text : List ℕ) (result : Result A E) → OnOk result (call.taken_now ≡ with_end call.taken_before text)
-    → OnErr result (HoldsFront call.taken_before text call.taken_now) → HasCause call.sink_before call.sink_now result ⊥ → Wrote call text ⊎ WroteFront call text
-told call text (Ok x) all front cause = inl (record { added = all; calm = cause.calm })
-told call text (Err e) all front cause = inr (record { added = front; rose = ⊎_elim (λ rose. rose) (λ none. absurd none) cause.rose })
+    → OnErr result (HoldsPrefix call.taken_before text call.taken_now) → HasCause call.sink_before call.sink_now result ⊥ → Wrote call text ⊎ WrotePrefix call text
+told call text (Ok x) all prefix cause = inl (record { added = all; calm = cause.calm })
+told call text (Err e) all prefix cause = inr (record { added = prefix; rose = ⊎_elim (λ rose. rose) (λ none. absurd none) cause.rose })

@@ -10,7 +10,7 @@ use Rattle.draw_split.specs.declared.joining.JoinFault.TheVariants as join
 use Rattle.draw_split.specs.declared.naming.SplitFault.{SplitFault}
 use Rattle.draw_split.specs.declared.naming.SplitFault.TheVariants as split
 use Rattle.report_text.specs.Report.{report_text}
-use Rattle.run_rules.specs.Run.{Ran}
+use Rattle.run_rules.specs.Run.{Outcome}
 use Rattle.scenario_toml.specs.declared.fault.ScenarioFault.{ScenarioFault}
 use Rattle.scenario_toml.specs.Scenario.{scenario_of}
 use Rattle.scenario_toml.specs.State.{ScenarioState}
@@ -135,10 +135,10 @@ pub record HasScenario (coming : Option Entry) (scenario : ScenarioState) : Type
 pub record IsPlanReport (coming : Option Entry) (status : Status) (text : List ℕ) : Type 0 where
   pub scenario : ScenarioState
   pub file : HasScenario coming scenario
-  pub ran : Ran
-  pub run : IsRunOf scenario ran
-  pub printed : text ≡ report_text ran
-  pub ends : status ≡ status_of_run ran
+  pub outcome : Outcome
+  pub run : IsRunOf scenario outcome
+  pub printed : text ≡ report_text outcome
+  pub ends : status ≡ status_of_run outcome
 
 -- the file is no scenario, and this is its first fault
 pub record IsNoScenario (coming : Option Entry) (fault : ScenarioFault) : Type 0 where

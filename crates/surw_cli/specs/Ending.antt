@@ -1,7 +1,7 @@
 -- How the top call ends: the cause of each status, and what stands after it.
 use Rattle.std.specs.Prelude.{◌≡◌, ◌⊎◌, ℕ, List, Option}
 use Rattle.surw_io.specs.Cause.{Rose}
-use Rattle.surw_io.specs.Content.{with_end, HoldsFront}
+use Rattle.surw_io.specs.Content.{with_end, HoldsPrefix}
 use Rattle.scenario_faults.specs.FaultText.{scenario_fault_text}
 use Rattle.scenario_toml.specs.declared.fault.ScenarioFault.{ScenarioFault}
 use Rattle.surw_cli.specs.Answer.{Answer, Report, Refusal, NoScenario, Coming, IsAnswer}
@@ -32,9 +32,9 @@ pub record Wrote (call : Call) (text : List ℕ) : Type 0 where
   pub added : call.taken_now ≡ with_end call.taken_before text
   pub calm : call.sink_now ≡ call.sink_before
 
--- the sink failed at the text, so a front of it was written
-pub record WroteFront (call : Call) (text : List ℕ) : Type 0 where
-  pub added : HoldsFront call.taken_before text call.taken_now
+-- the sink failed at the text, so a prefix of it was written
+pub record WrotePrefix (call : Call) (text : List ℕ) : Type 0 where
+  pub added : HoldsPrefix call.taken_before text call.taken_now
   pub rose : Rose call.sink_before call.sink_now
 
 -- the refusal was answered, and told as far as the sink took it
@@ -42,14 +42,14 @@ pub record WasRefused (call : Call) (status : Status) : Type 0 where
   pub fault : Fault
   pub is : status ≡ status_of fault
   pub cause : IsAnswer call.words call.coming (Refusal fault)
-  pub told : Wrote call (fault_text fault) ⊎ WroteFront call (fault_text fault)
+  pub told : Wrote call (fault_text fault) ⊎ WrotePrefix call (fault_text fault)
   pub calm : IsCalm call
 
 -- the file is no scenario: its first fault was told as far as the sink took it
 pub record WasUnformed (call : Call) : Type 0 where
   pub fault : ScenarioFault
   pub cause : IsAnswer call.words call.coming (NoScenario fault)
-  pub told : Wrote call (scenario_fault_text fault) ⊎ WroteFront call (scenario_fault_text fault)
+  pub told : Wrote call (scenario_fault_text fault) ⊎ WrotePrefix call (scenario_fault_text fault)
   pub calm : IsCalm call
 
 -- the report that ends with this status was written
@@ -64,13 +64,13 @@ pub record FailedToWrite (call : Call) : Type 0 where
   pub status : Status
   pub text : List ℕ
   pub cause : IsAnswer call.words call.coming (Report status text)
-  pub told : WroteFront call text
+  pub told : WrotePrefix call text
   pub calm : IsCalm call
 
 -- the shelf failed, or has no such file
 pub record FailedToRead (call : Call) : Type 0 where
   pub cause : IsUnread call.words call.coming call.shelf_before call.shelf_now
-  pub told : Wrote call (fault_text Read) ⊎ WroteFront call (fault_text Read)
+  pub told : Wrote call (fault_text Read) ⊎ WrotePrefix call (fault_text Read)
 
 -- nothing was written
 pub record RanOutOfMemory (call : Call) : Type 0 where

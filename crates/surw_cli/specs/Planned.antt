@@ -7,7 +7,7 @@ use Rattle.run_rules.specs.declared.plan.Plan.{Plan}
 use Rattle.run_rules.specs.declared.verdict.Verdict.{Verdict}
 use Rattle.run_rules.specs.declared.verdict.Verdict.TheVariants as verdict
 use Rattle.run_rules.specs.Plan.{script_of}
-use Rattle.run_rules.specs.Run.{IsRun, Ran}
+use Rattle.run_rules.specs.Run.{IsRun, Outcome}
 use Rattle.run_rules.specs.Setup.{Script}
 use Rattle.selected_order.specs.KeepsOrder.{KeepsOrder}
 use Rattle.scenario_toml.specs.declared.choice.Choice.{Choice}
@@ -39,11 +39,11 @@ abbrev pub script : Plan AnyRoutine AnyDraws AnyDraws → Script
 script plan = script_of routine.any_announced routine.any_after (any_source plan.selected) (any_source plan.other) plan
 
 -- the run of the scenario's plan; under SURW it keeps the promise on the order of the selected events
-pub record IsRunOf (scenario : ScenarioState) (ran : Ran) : Type 0 where
+pub record IsRunOf (scenario : ScenarioState) (outcome : Outcome) : Type 0 where
   pub plan : Plan AnyRoutine AnyDraws AnyDraws
   pub planned : IsPlanOf scenario no_choice (counts_by scenario.strategy scenario) plan
-  pub run : IsRun (script plan) ran
-  pub order : KeepsOrder (script plan) ran
+  pub run : IsRun (script plan) outcome
+  pub order : KeepsOrder (script plan) outcome
 
 -- the status of a verdict, where a monitor failed or none did
 abbrev pub status_by : Verdict → Bool → Status
@@ -56,5 +56,5 @@ status_by (verdict.Left step thread) failed = Asked
 status_by (verdict.StepLimit step) failed = StepLimit
 
 -- the status that a run ends with
-abbrev pub status_of_run : Ran → Status
-status_of_run ran = status_by ran.verdict (list_any is_some ran.failed)
+abbrev pub status_of_run : Outcome → Status
+status_of_run outcome = status_by outcome.verdict (list_any is_some outcome.failed)

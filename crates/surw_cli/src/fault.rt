@@ -1,6 +1,6 @@
 ghost use Rattle.std.specs.Prelude.{◌≡◌, ◌+◌, ◌*◌, ◌<◌, ◌≤◌, ◌++◌, length, OnOk, OnErr};
 ghost use Rattle.surw_io.specs.Cause.{HasCause};
-ghost use Rattle.surw_io.specs.Content.{with_end, HoldsFront};
+ghost use Rattle.surw_io.specs.Content.{with_end, HoldsPrefix};
 ghost use Rattle.surw_cli.specs.Fault.{fault_text, status_of};
 ghost use Rattle.surw_cli.specs.Lines.{line, list_text};
 
@@ -75,10 +75,10 @@ impl Fault {
     }
 
     /// Writes the fault's line at once. It takes no memory. After `Failed`, which comes only where the
-    /// sink's faults rose, a front of the line was taken.
+    /// sink's faults rose, a prefix of the line was taken.
     pub fn put<O: Sink>(&self, out: &mut O) -> Result<(), Failed>
         ensures all { OnOk result (O.taken out.new ≡ with_end (O.taken out.old) (fault_text self.now)) }
-        ensures front { OnErr result (HoldsFront (O.taken out.old) (fault_text self.now) (O.taken out.new)) }
+        ensures prefix { OnErr result (HoldsPrefix (O.taken out.old) (fault_text self.now) (O.taken out.new)) }
         ensures cause { HasCause (O.faults out.old) (O.faults out.new) result ⊥ }
     {
         let line = self.line();

@@ -64,6 +64,6 @@ pub read_moves : (files : List (List ℕ × List ℕ)) (opened : Option ℕ) (le
 read_moves files opened left n old copied into is few long same copy =
     let rest : List ℕ = left_at files opened left in
     let some : length copied ≡ n = ap length copy ∙ length-take-le n rest (omega (arith, long)) in
-    let front : take n (copied ++ into) ≡ take n rest =
+    let prefix : take n (copied ++ into) ≡ take n rest =
     take-append-le n copied into (omega (arith, some)) ∙ ap (take n) copy ∙ take-take n n rest (omega arith) in
-    same ∙ sym (take-append-drop n rest) ∙ (λ i. sym front i ++ sym (left_at-less files opened left n is few) i)
+    same ∙ sym (take-append-drop n rest) ∙ (λ i. sym prefix i ++ sym (left_at-less files opened left n is few) i)

@@ -24,8 +24,8 @@ abbrev pub with_end : Option (List ℕ) → List ℕ → Option (List ℕ)
 with_end told bytes = option_map (λ held. held ++ bytes) told
 
 -- what is told, with these bytes before it
-abbrev pub with_front : List ℕ → Option (List ℕ) → Option (List ℕ)
-with_front bytes told = option_map (λ rest. bytes ++ rest) told
+abbrev pub with_prefix : List ℕ → Option (List ℕ) → Option (List ℕ)
+with_prefix bytes told = option_map (λ rest. bytes ++ rest) told
 
 -- told as empty
 abbrev pub emptied : Option (List ℕ) → Option (List ℕ)
@@ -36,9 +36,9 @@ abbrev pub IsAtEnd : Option (List ℕ) → Type 0
 IsAtEnd None = Unit {0}
 IsAtEnd (Some rest) = rest ≡ []
 
--- a front of the bytes was added, and nothing else
-pub record HoldsFront (before : Option (List ℕ)) (bytes : List ℕ) (now : Option (List ℕ)) : Type 0 where
-  pub front : List ℕ
+-- a prefix of the bytes was added, and nothing else
+pub record HoldsPrefix (before : Option (List ℕ)) (bytes : List ℕ) (now : Option (List ℕ)) : Type 0 where
+  pub prefix : List ℕ
   pub rest : List ℕ
-  pub whole : front ++ rest ≡ bytes
-  pub held : now ≡ with_end before front
+  pub whole : prefix ++ rest ≡ bytes
+  pub held : now ≡ with_end before prefix

@@ -1,7 +1,7 @@
 -- What a fetch leaves, and why it is refused.
 use Rattle.std.specs.Prelude.{◌≡◌, ◌⊎◌, ℕ, ◌+◌, ◌<◌, ◌≤◌, List, length, Option, Some, None, Result, Ok, Err}
 use Rattle.surw_io.specs.Cause.{Rose}
-use Rattle.surw_io.specs.Content.{Entry, File, Missing, content_of, with_front, IsAtEnd}
+use Rattle.surw_io.specs.Content.{Entry, File, Missing, content_of, with_prefix, IsAtEnd}
 use Rattle.surw_io.specs.declared.whole_file.FetchFault.{FetchFault}
 use Rattle.surw_io.specs.declared.whole_file.FetchFault.TheVariants.{Failed, TooLong, OutOfMemory}
 
@@ -19,9 +19,9 @@ IsRefused coming limit before now OutOfMemory = now ≡ before
 
 -- no more than `most` bytes were taken from the front of what was told
 pub record TookAtMost (most : ℕ) (told left : Option (List ℕ)) : Type 0 where
-  pub front : List ℕ
-  pub few : length front ≤ most
-  pub rest : told ≡ with_front front left
+  pub prefix : List ℕ
+  pub few : length prefix ≤ most
+  pub rest : told ≡ with_prefix prefix left
 
 -- what the file has left: nothing after a whole fetch, and never less than all but one more than the limit, unless the open failed
 abbrev pub LeavesRest : {A : Type 0} → Option Entry → ℕ → Option (List ℕ) → Result A FetchFault → Type 0

@@ -77,8 +77,8 @@ impl<'a> Shelf for SafeShelf<'a> {
         ensures after { self.new ≡ record self.old { left = self.new.left } }
     {
         let n = into.len().min(self.left.len());
-        let (front, rest) = self.left.split_at(n);
-        into[..n].copy_from_slice(front);
+        let (prefix, rest) = self.left.split_at(n);
+        into[..n].copy_from_slice(prefix);
         self.left = rest;
         Ok(n)
     }

@@ -1,5 +1,5 @@
 ghost use Rattle.std.specs.Prelude.{◌≡◌, ◌≢◌, ◌<◌, ◌≤◌, ℕ, List, Some, Option, length, take, drop, IfOk, OnOk, OnErr};
-ghost use Rattle.surw_io.specs.Content.{Entry, Missing, content_of, with_front, emptied, IsAtEnd};
+ghost use Rattle.surw_io.specs.Content.{Entry, Missing, content_of, with_prefix, emptied, IsAtEnd};
 ghost use Rattle.surw_io.specs.Cause.{HasCause, one_more};
 
 use crate::Failed;
@@ -37,7 +37,7 @@ pub trait Shelf {
     /// file or where `into` is empty. After `Failed`, which comes only where `in_faults` rose, none was moved.
     fn read(&mut self, into: &mut [u8]) -> Result<usize, Failed>
         ensures within { IfOk result (λ n. n ≤ length into.old) }
-        ensures moved { IfOk result (λ n. left self.old ≡ with_front (take n into.new) (left self.new)) }
+        ensures moved { IfOk result (λ n. left self.old ≡ with_prefix (take n into.new) (left self.new)) }
         ensures rest { IfOk result (λ n. drop n into.new ≡ drop n into.old) }
         ensures end { IfOk result (λ n. 0 < length into.old → n ≡ 0 → IsAtEnd (left self.old)) }
         ensures kept { OnErr result (left self.new ≡ left self.old) }

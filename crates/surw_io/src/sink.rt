@@ -1,5 +1,5 @@
 ghost use Rattle.std.specs.Prelude.{◌≡◌, ◌<◌, ◌≤◌, ℕ, List, Option, length, take, IfOk, OnOk, OnErr};
-ghost use Rattle.surw_io.specs.Content.{with_end, HoldsFront};
+ghost use Rattle.surw_io.specs.Content.{with_end, HoldsPrefix};
 ghost use Rattle.surw_io.specs.Cause.{HasCause};
 
 use crate::Failed;
@@ -23,10 +23,10 @@ pub trait Sink {
 }
 
 /// Writes all bytes, each time all that are left. After `Failed`, which comes only where the sink's faults
-/// rose, a front of them was taken.
+/// rose, a prefix of them was taken.
 pub fn put_all<O: Sink>(out: &mut O, bytes: &[u8]) -> Result<(), Failed>
     ensures all { OnOk result (O.taken out.new ≡ with_end (O.taken out.old) bytes.now) }
-    ensures front { OnErr result (HoldsFront (O.taken out.old) bytes.now (O.taken out.new)) }
+    ensures prefix { OnErr result (HoldsPrefix (O.taken out.old) bytes.now (O.taken out.new)) }
     ensures cause { HasCause (O.faults out.old) (O.faults out.new) result ⊥ }
 {
     let mut rest = bytes;

@@ -29,7 +29,7 @@ place-most (first ∷ rest) thread = elim (cases_eq first thread) as (λ _. plac
   | inr differ ↦ omega (arith, place-rest first thread rest differ, place-most rest thread)
 ]
 
-place-past : (front back : List ℕ) (thread : ℕ) → times thread front ≡ 0 → place_of (front ++ back) thread ≡ length front + place_of back thread
+place-past : (prefix back : List ℕ) (thread : ℕ) → times thread prefix ≡ 0 → place_of (prefix ++ back) thread ≡ length prefix + place_of back thread
 place-past [] back thread none = omega arith
 place-past (first ∷ rest) back thread none =
     let differ : first ≢ thread = λ e. omega (arith, none, times-same thread first rest e) in
@@ -92,24 +92,24 @@ ordered-low : (order : List ℕ) (thread : ℕ) → IsOrder (length order) order
 ordered-low order thread is there = elim (cases_lt thread (length order)) as (λ _. thread < length order)
     [ inl low ↦ low | inr high ↦ absurd (omega (arith, there, is.only thread high)) ]
 
-falling-from : (top : ℕ) (order front back : List ℕ) → IsOrder (length order) order → length order ≤ top → order ≡ front ++ back
+falling-from : (top : ℕ) (order prefix back : List ℕ) → IsOrder (length order) order → length order ≤ top → order ≡ prefix ++ back
     → IsFalling (first_priorities top order) back
-falling-from top order front [] is le whole = tt
-falling-from top order front (first ∷ rest) is le whole =
-    let counted : (thread : ℕ) → times thread order ≡ times thread front + times thread (first ∷ rest) = λ thread. ap (times thread) whole
-    ∙ times-append thread front (first ∷ rest) in
+falling-from top order prefix [] is le whole = tt
+falling-from top order prefix (first ∷ rest) is le whole =
+    let counted : (thread : ℕ) → times thread order ≡ times thread prefix + times thread (first ∷ rest) = λ thread. ap (times thread) whole
+    ∙ times-append thread prefix (first ∷ rest) in
     let here : 1 ≤ times first order = omega (arith, counted first, times-same first first rest refl) in
     let first_low : first < length order = ordered-low order first is here in
-    let first_front : times first front ≡ 0 = omega (arith, counted first, times-same first first rest refl, is.once first first_low) in
-    let first_place : place_of order first ≡ length front = ap (λ l. place_of l first) whole ∙ place-past front (first ∷ rest) first first_front
+    let first_prefix : times first prefix ≡ 0 = omega (arith, counted first, times-same first first rest refl, is.once first first_low) in
+    let first_place : place_of order first ≡ length prefix = ap (λ l. place_of l first) whole ∙ place-past prefix (first ∷ rest) first first_prefix
     ∙ omega (arith, place-first first first rest refl) in (
       (λ other there.
           let other_there : 1 ≤ times other order = omega (arith, counted other, there) in
           let other_low : other < length order = ordered-low order other is other_there in
           let differ : first ≢ other = λ e. omega (arith, counted other, there, times-same other first rest e, is.once other other_low) in
-          let other_front : times other front ≡ 0 = omega (arith, counted other, there, is.once other other_low) in
-          let other_place : place_of order other ≡ length front + place_of (first ∷ rest) other = ap (λ l. place_of l other) whole
-          ∙ place-past front (first ∷ rest) other other_front in
+          let other_prefix : times other prefix ≡ 0 = omega (arith, counted other, there, is.once other other_low) in
+          let other_place : place_of order other ≡ length prefix + place_of (first ∷ rest) other = ap (λ l. place_of l other) whole
+          ∙ place-past prefix (first ∷ rest) other other_prefix in
           omega (
             arith,
             first_place,
@@ -120,7 +120,7 @@ falling-from top order front (first ∷ rest) is le whole =
             place-most order other,
             le,
           )),
-      falling-from top order (front ++ first ∷ []) rest is le (whole ∙ sym (append_assoc front (first ∷ []) rest)),
+      falling-from top order (prefix ++ first ∷ []) rest is le (whole ∙ sym (append_assoc prefix (first ∷ []) rest)),
     )
 
 pub first-falling : (top : ℕ) (order : List ℕ) → IsOrder (length order) order → length order ≤ top → IsFalling (first_priorities top order) order

@@ -46,12 +46,12 @@ none-others [] none = refl
 none-others (x ∷ xs) none = absurd (omega (arith, none))
 
 -- the node at a place isn't among those before it, where each stands once
-front-none : (order : List ℕ) (index : ℕ) → index < length order → times (get_or order index 0) order ≤ 1 → times (get_or order index 0) (take index order) ≡ 0
-front-none order index lt once =
+prefix-none : (order : List ℕ) (index : ℕ) → index < length order → times (get_or order index 0) order ≤ 1 → times (get_or order index 0) (take index order) ≡ 0
+prefix-none order index lt once =
     let more : take (index + 1) order ≡ take index order ++ get_or order index 0 ∷ [] = take_more order index 0 lt in
     let node : ℕ = get_or order index 0 in
-    let front : times node (take (index + 1) order) ≤ times node order = times-take node (index + 1) order in
-    omega (arith, once, front, ap (times node) more, times-append node (take index order) (node ∷ []), times-same node node [] refl)
+    let prefix : times node (take (index + 1) order) ≤ times node order = times-take node (index + 1) order in
+    omega (arith, once, prefix, ap (times node) more, times-append node (take index order) (node ∷ []), times-same node node [] refl)
 
 pub ordered-first : (lists : List (List ℕ)) (order : List ℕ) → HasEachOnce lists → IsOrderedTo lists lists order 0
 ordered-first lists order each_once =
@@ -67,7 +67,7 @@ module _ (before now : List (List ℕ)) (order : List ℕ) (index : ℕ) (one : 
   pub ordered-next : (new : List (List ℕ)) → IsOrderedTo before now order index → new ≡ at_back now 0 (get_or order index 0) → HasSameNodes now new
       → IsOrderedTo before new order (index + 1)
   ordered-next new to moved same =
-      let none : times (get_or order index 0) (take index order) ≡ 0 = front-none order index lt (order-once before order is (get_or order index 0)) in
+      let none : times (get_or order index 0) (take index order) ≡ 0 = prefix-none order index lt (order-once before order is (get_or order index 0)) in
       let parts = without-append (get_or order index 0) to.others (take index order) in
       let rest = without-none (get_or order index 0) (take index order) none in
       record {

@@ -23,8 +23,8 @@ use Rattle.walk_rules.specs.Ranks.{IsOrder}
 
 -- answers in front of those that follow
 abbrev pub prepended : List ℕ → Result (List ℕ) DrawFault → Result (List ℕ) DrawFault
-prepended front (Ok draws) = Ok (front ++ draws)
-prepended front (Err fault) = Err fault
+prepended prefix (Ok draws) = Ok (prefix ++ draws)
+prepended prefix (Err fault) = Err fault
 
 prepended-none : (r : Result (List ℕ) DrawFault) → prepended [] r ≡ r
 prepended-none (Ok draws) = refl
@@ -252,13 +252,13 @@ module _ {S : Type 0} (draws : Ghosts S) where
 
 -- both, one after the other
 joined : Result (List ℕ) DrawFault → Result (List ℕ) DrawFault → Result (List ℕ) DrawFault
-joined (Ok front) rest = prepended front rest
+joined (Ok prefix) rest = prepended prefix rest
 joined (Err fault) rest = Err fault
 
 with-joined : (draw : ℕ) (rest more : Result (List ℕ) DrawFault) → with_first (Ok draw) (joined rest more) ≡ joined (with_first (Ok draw) rest) more
 unfolding joined
-with-joined draw (Ok front) (Ok back) = refl
-with-joined draw (Ok front) (Err fault) = refl
+with-joined draw (Ok prefix) (Ok back) = refl
+with-joined draw (Ok prefix) (Err fault) = refl
 with-joined draw (Err fault) more = refl
 
 joined-after : {S : Type 0} (first : Result ℕ DrawFault) (rest : Result (List ℕ) DrawFault) (here later : S) (answer : S → Result (List ℕ) DrawFault)
@@ -287,17 +287,17 @@ length-named : (left draws : List ℕ) → length (named_order left draws) ≡ l
 length-named left [] = ap length (named_order-nil left)
 length-named left (draw ∷ draws) = ap length (named_order-cons left draw draws) ∙ ap suc (length-named (less_one left (pick left draw)) draws)
 
-take-front : (front back : List ℕ) (n : ℕ) → length front ≡ n → take n (front ++ back) ≡ front
-take-front [] back zero is = refl
-take-front [] back (suc n) is = absurd (omega (arith, is))
-take-front (x ∷ xs) back zero is = absurd (omega (arith, is))
-take-front (x ∷ xs) back (suc n) is = ap (λ l. x ∷ l) (take-front xs back n (omega (arith, is)))
+take-prefix : (prefix back : List ℕ) (n : ℕ) → length prefix ≡ n → take n (prefix ++ back) ≡ prefix
+take-prefix [] back zero is = refl
+take-prefix [] back (suc n) is = absurd (omega (arith, is))
+take-prefix (x ∷ xs) back zero is = absurd (omega (arith, is))
+take-prefix (x ∷ xs) back (suc n) is = ap (λ l. x ∷ l) (take-prefix xs back n (omega (arith, is)))
 
-drop-front : (front back : List ℕ) (n : ℕ) → length front ≡ n → drop n (front ++ back) ≡ back
-drop-front [] back zero is = refl
-drop-front [] back (suc n) is = absurd (omega (arith, is))
-drop-front (x ∷ xs) back zero is = absurd (omega (arith, is))
-drop-front (x ∷ xs) back (suc n) is = drop-front xs back n (omega (arith, is))
+drop-prefix : (prefix back : List ℕ) (n : ℕ) → length prefix ≡ n → drop n (prefix ++ back) ≡ back
+drop-prefix [] back zero is = refl
+drop-prefix [] back (suc n) is = absurd (omega (arith, is))
+drop-prefix (x ∷ xs) back zero is = absurd (omega (arith, is))
+drop-prefix (x ∷ xs) back (suc n) is = drop-prefix xs back n (omega (arith, is))
 
 both-found : (threads : ℕ) (first second : Result (List ℕ) DrawFault) (order changes : List ℕ) → order_found (replicate threads 1) first ≡ Ok order
     → length order ≡ threads → second ≡ Ok changes
@@ -308,7 +308,7 @@ both-found threads (Ok draws) second order changes named long is =
     let same : named_order (replicate threads 1) draws ≡ order = cc in
     let short : length draws ≡ threads = sym (length-named (replicate threads 1) draws) ∙ ap length same ∙ long in
     ap (λ r. draws_found threads (joined (Ok draws) r)) is
-    ∙ (λ i. Ok (named_order (replicate threads 1) (take-front draws changes threads short i), drop-front draws changes threads short i))
+    ∙ (λ i. Ok (named_order (replicate threads 1) (take-prefix draws changes threads short i), drop-prefix draws changes threads short i))
     ∙ ap (λ l. Ok (l, changes)) same
 
 pub draws-both : {S : Type 0} (draws : Ghosts S) (source next : S) (threads : ℕ) (more order changes : List ℕ)
@@ -327,13 +327,13 @@ some-there left draw low = let at = placed left draw low in omega (arith, at.wit
 -- a refusal of the first bounds, or of those after them
 joined-first : (first second : Result (List ℕ) DrawFault) (fault : DrawFault) → first ≡ Err fault → joined first second ≡ Err fault
 unfolding joined
-joined-first (Ok front) second fault is = absurd (cc)
+joined-first (Ok prefix) second fault is = absurd (cc)
 joined-first (Err other) second fault is = cc
 
-joined-second : (first second : Result (List ℕ) DrawFault) (front : List ℕ) (fault : DrawFault) → first ≡ Ok front → second ≡ Err fault → joined first second ≡ Err fault
+joined-second : (first second : Result (List ℕ) DrawFault) (prefix : List ℕ) (fault : DrawFault) → first ≡ Ok prefix → second ≡ Err fault → joined first second ≡ Err fault
 unfolding joined
-joined-second (Ok other) second front fault is refused = ap (prepended other) refused
-joined-second (Err other) second front fault is refused = absurd (cc)
+joined-second (Ok other) second prefix fault is refused = ap (prepended other) refused
+joined-second (Err other) second prefix fault is refused = absurd (cc)
 
 pub first-refused : {S : Type 0} (draws : Ghosts S) (source : S) (bounds more : List ℕ) (fault : DrawFault) → answers draws source bounds ≡ Err fault
     → answers draws source (bounds ++ more) ≡ Err fault

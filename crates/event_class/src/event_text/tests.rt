@@ -34,7 +34,7 @@ fn each_event_is_printed(rt: HostRuntime) -> Result<(), Fail> {
 }
 
 #[test]
-fn the_longest_front_is_read(rt: HostRuntime) {
+fn the_longest_prefix_is_read(rt: HostRuntime) {
     let load = Event::Load { c: 12 };
     let cut = Event::Load {
         c: 1_844_674_407_370_955_161,
@@ -54,7 +54,7 @@ fn the_longest_front_is_read(rt: HostRuntime) {
 }
 
 #[test]
-fn a_text_without_an_event_at_its_front(rt: HostRuntime) {
+fn a_text_without_an_event_at_its_prefix(rt: HostRuntime) {
     let rows: [&[u8]; 12] = [
         b"",
         b"load",

@@ -60,20 +60,20 @@ fn want_of_memory_writes_nothing(rt: HostRuntime) -> Result<(), Fail> {
 }
 
 #[test]
-fn a_failed_write_leaves_a_front(rt: HostRuntime) -> Result<(), Fail> {
+fn a_failed_write_leaves_a_prefix(rt: HostRuntime) -> Result<(), Fail> {
     let fault = fault_of(rt.alloc(), "strategy = 'sruw'")?;
-    let fronts = [
+    let prefixes = [
         "",
         "fault scenario name ",
         "fault scenario name strategy",
         "fault scenario name strategy ",
         "fault scenario name strategy sruw",
     ];
-    for (call, front) in fronts.iter().enumerate() {
+    for (call, prefix) in prefixes.iter().enumerate() {
         let fails = Vec::from_slice(rt.alloc(), &[call as u32])?;
         let mut out = MemSink::new(rt.alloc(), 100, 100, fails)?;
         assert_eq!(rt; put_fault(&fault, &mut out), Err(Failed), "{call}");
-        assert_eq!(rt; out.taken(), front.as_bytes(), "{call}");
+        assert_eq!(rt; out.taken(), prefix.as_bytes(), "{call}");
     }
     Ok(())
 }

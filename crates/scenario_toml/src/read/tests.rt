@@ -43,15 +43,15 @@ fn answer(alloc: Global, file: &[u8]) -> Result<String, AllocError> {
     }
 }
 
-// Each of these files, behind a front, is answered with what stands beside it.
+// Each of these files, behind a prefix, is answered with what stands beside it.
 fn assert_answers(
     rt: &impl Abort,
     alloc: Global,
-    front: &str,
+    prefix: &str,
     rows: &[(&str, &str)],
 ) -> Result<(), Fail> {
     for (rest, due) in rows {
-        let file = format!(in alloc; "{front}{rest}")?;
+        let file = format!(in alloc; "{prefix}{rest}")?;
         assert_eq!(rt; answer(alloc, file.as_bytes())?.as_str(), *due, "{rest}");
     }
     Ok(())
@@ -60,12 +60,12 @@ fn assert_answers(
 // A file with so many items between its two parts.
 fn long(
     alloc: Global,
-    front: &str,
+    prefix: &str,
     item: &str,
     times: usize,
     back: &str,
 ) -> Result<String, AllocError> {
-    let mut file = String::from_str(alloc, front)?;
+    let mut file = String::from_str(alloc, prefix)?;
     for _place in 0..times {
         file.push_str(item)?;
     }
@@ -257,8 +257,8 @@ fn faults_of_the_world(rt: HostRuntime) -> Result<(), Fail> {
         ("slots = 1", "range world.slots 1 0 0"),
         ("frames = 0\npages = 0\nslots = 0", "taken"),
     ];
-    let front = format!(in rt.alloc(); "{HEAD}[world]\n")?;
-    assert_answers(&rt, rt.alloc(), front.as_str(), &rows)
+    let prefix = format!(in rt.alloc(); "{HEAD}[world]\n")?;
+    assert_answers(&rt, rt.alloc(), prefix.as_str(), &rows)
 }
 
 #[test]
@@ -278,8 +278,8 @@ fn faults_of_the_kind_of_a_thread(rt: HostRuntime) -> Result<(), Fail> {
         HEAD,
         &[("thread = [1]", "wrong_kind thread.0")],
     )?;
-    let front = format!(in rt.alloc(); "{HEAD}{FIRST}")?;
-    assert_answers(&rt, rt.alloc(), front.as_str(), &rows)
+    let prefix = format!(in rt.alloc(); "{HEAD}{FIRST}")?;
+    assert_answers(&rt, rt.alloc(), prefix.as_str(), &rows)
 }
 
 #[test]
@@ -299,8 +299,8 @@ fn faults_of_a_thread_of_lines(rt: HostRuntime) -> Result<(), Fail> {
             "range thread.1.times 4097 1 4096",
         ),
     ];
-    let front = format!(in rt.alloc(); "{HEAD}{FIRST}kind = 'steps'\n")?;
-    assert_answers(&rt, rt.alloc(), front.as_str(), &rows)
+    let prefix = format!(in rt.alloc(); "{HEAD}{FIRST}kind = 'steps'\n")?;
+    assert_answers(&rt, rt.alloc(), prefix.as_str(), &rows)
 }
 
 #[test]
@@ -318,8 +318,8 @@ fn faults_of_a_thread_that_adds(rt: HostRuntime) -> Result<(), Fail> {
         ("cell = 0\ntries = 4096", "range counts 0 2 2"),
         ("cell = 0\ntries = 4097", "range thread.1.tries 4097 1 4096"),
     ];
-    let front = format!(in rt.alloc(); "{HEAD}{FIRST}kind = 'adder'\n")?;
-    assert_answers(&rt, rt.alloc(), front.as_str(), &rows)
+    let prefix = format!(in rt.alloc(); "{HEAD}{FIRST}kind = 'adder'\n")?;
+    assert_answers(&rt, rt.alloc(), prefix.as_str(), &rows)
 }
 
 #[test]
@@ -419,9 +419,9 @@ fn arrays_up_to_their_length(rt: HostRuntime) -> Result<(), Fail> {
             "range thread.0.lines 257 0 256",
         ),
     ];
-    for (front, item, times, back, fault) in &rows {
-        let front = format!(in rt.alloc(); "{HEAD}{front}")?;
-        let file = long(rt.alloc(), front.as_str(), item, *times, back)?;
+    for (prefix, item, times, back, fault) in &rows {
+        let prefix = format!(in rt.alloc(); "{HEAD}{prefix}")?;
+        let file = long(rt.alloc(), prefix.as_str(), item, *times, back)?;
         assert_eq!(rt;
             answer(rt.alloc(), file.as_bytes())?.as_str(),
             *fault,
@@ -445,8 +445,8 @@ fn tapes_up_to_their_length(rt: HostRuntime) -> Result<(), Fail> {
         ("other", "0, ", 65_537, "range tapes.other 65537 0 65536"),
     ];
     for (tape, entry, times, fault) in &rows {
-        let front = format!(in rt.alloc(); "counts = []\ntapes.{tape} = [")?;
-        let file = long(rt.alloc(), front.as_str(), entry, *times, "]")?;
+        let prefix = format!(in rt.alloc(); "counts = []\ntapes.{tape} = [")?;
+        let file = long(rt.alloc(), prefix.as_str(), entry, *times, "]")?;
         assert_eq!(rt;
             answer(rt.alloc(), file.as_bytes())?.as_str(),
             *fault,

@@ -1,6 +1,6 @@
 use Rattle.std.proofs.Common.{◌≡◌, ◌+◌, ◌<◌, ◌∙◌, List, ℕ, length, get_or, take, arith, subst, sym, length-set}
 use Rattle.std.proofs.lemmas.List.{get_or_past, take_more_set}
-use Rattle.surw_base.specs.Front.{IsLongestFront, HasNoFront}
+use Rattle.surw_base.specs.Prefix.{IsLongestPrefix, HasNoPrefix}
 use Rattle.surw_base.specs.Number.{IsNumberText}
 use Rattle.event_class.specs.Event.{AreNumbersText}
 use Rattle.event_class.proofs.Numbers.{none-space, none-number, one-more}
@@ -19,7 +19,7 @@ returns-then-len-text c = elim c.then-len-text.branch [
 pub returns-in-None : goal.returns-in-None
 returns-in-None c =
     none-number _ _ _ _ _ c.loop-i.invariant.longest c.loop-i-test.true
-    (subst (HasNoFront IsNumberText) c.split_at.ensures.back c.in-None.ensures)
+    (subst (HasNoPrefix IsNumberText) c.split_at.ensures.back c.in-None.ensures)
 
 pub loop-i-preserved : goal.loop-i-preserved
 loop-i-preserved c =
@@ -29,9 +29,9 @@ loop-i-preserved c =
     let v = c.in-Some.number in
     let below : i < length numbers = omega (arith, c.loop-i.invariant.room, c.loop-i-test.true, c.requires) in
     let inside : c.loop-i.len < length text = omega (arith, c.loop-i.invariant.longest.within, c.if-len-text.false) in
-    let number = subst (λ (l : List ℕ). IsLongestFront IsNumberText l v c.in-Some.width) c.split_at.ensures.back c.in-Some.ensures in
+    let number = subst (λ (l : List ℕ). IsLongestPrefix IsNumberText l v c.in-Some.width) c.split_at.ensures.back c.in-Some.ensures in
     let more = one-more text (take i numbers) i c.loop-i.len v c.in-Some.width c.loop-i.invariant.longest inside c.if-text-len-ne32.false number in
     record {
-      longest = subst (λ (l : List ℕ). IsLongestFront (AreNumbersText (i + 1)) text l (c.loop-i.len + (1 + c.in-Some.width))) (sym (take_more_set numbers i v below)) more;
+      longest = subst (λ (l : List ℕ). IsLongestPrefix (AreNumbersText (i + 1)) text l (c.loop-i.len + (1 + c.in-Some.width))) (sym (take_more_set numbers i v below)) more;
       room = length-set numbers i v ∙ c.loop-i.invariant.room;
     }

@@ -4,7 +4,7 @@ use Rattle.event_class.proofs.event_text.text_of.Given as goal
 
 abbrev pub invariant-loop-number : goal.invariant-loop-number
 invariant-loop-number l = record {
-  front : take l.len l.text ≡ verb_of l.event ++ numbers_text (take l.number-index l.number-items);
+  prefix : take l.len l.text ≡ verb_of l.event ++ numbers_text (take l.number-index l.number-items);
   within : l.len ≤ 7 + 21 * l.number-index;
   room : length l.text ≡ 70;
 }

@@ -3,7 +3,7 @@ use Rattle.seed_draws.specs.Answers.{source_of}
 use Rattle.run_rules.specs.Plan.{script_of, setup_of}
 use Rattle.run_rules.specs.Run.{IsRun}
 use Rattle.pure_run.specs.Core.{CoreState, position, setup_by, verdict_of}
-use Rattle.pure_run.specs.Finished.{ran_at}
+use Rattle.pure_run.specs.Finished.{outcome_at}
 use Rattle.pure_run.specs.Inline.{said_by}
 use Rattle.pure_run.specs.Kept.{IsKept}
 use Rattle.pure_run.specs.Opened.{opened_with, setup_in}
@@ -33,9 +33,9 @@ returns-clause-run g c =
     let script = script_of g.R.Routine.announced g.R.Routine.after_reply (selected plan.selected) (other plan.other) plan in
     let same : setup_by selected other core ≡ setup = ap (λ opened. setup_in (selected opened.selected) (other opened.other) opened) c.make_steps.ensures.opened in
     let found = has-some (verdict_of setup core) c.make_steps.ensures.stops in
-    let ran = c.finish.ensures.run found.value (ap (λ s. verdict_of s core) same ∙ found.is) ∙ ap (λ s. ran_at s (position core) found.value) same in
+    let outcome = c.finish.ensures.run found.value (ap (λ s. verdict_of s core) same ∙ found.is) ∙ ap (λ s. outcome_at s (position core) found.value) same in
     let kept = subst (λ s. IsKept s core.journal core.words) same c.finish.ensures.kept in
-    subst (λ r. IsRun script r) (sym ran)
+    subst (λ r. IsRun script r) (sym outcome)
     (inline-run g.R.Routine.announced g.R.Routine.after_reply plan (selected plan.selected) (other plan.other) core c.make_steps.new.routines.items found.value
     c.make_steps.ensures.inline kept found.is)
 

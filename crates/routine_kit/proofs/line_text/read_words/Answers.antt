@@ -10,7 +10,7 @@ pub returns-in-None-clause-only : goal.returns-in-None-clause-only
 returns-in-None-clause-only c words text all few =
     let some : 0 < length c.loop-rest.rest.now = search rules in
     let left = c.loop-rest.invariant.only words text all in
-    none-read left.0 c.loop-rest.rest.now _ _ _ some c.split_at.ensures.back c.word_len.ensures.place c.split_at-in-loop-rest.ensures.front left.2 left.3
+    none-read left.0 c.loop-rest.rest.now _ _ _ some c.split_at.ensures.back c.word_len.ensures.place c.split_at-in-loop-rest.ensures.prefix left.2 left.3
     (λ w is fits. let none = c.in-None.ensures.only w is fits in cc)
 
 pub loop-rest-preserved : goal.loop-rest-preserved
@@ -22,13 +22,13 @@ loop-rest-preserved c =
     let found = c.in-Some.ensures.found in
     record {
       text = text-more c.args.text.now items c.loop-rest.rest.now _ _ _ _ word c.loop-rest.invariant.text c.if-rest-ne32.false some c.split_at.ensures.back
-          c.split_at-in-loop-rest.ensures.front c.split_at-in-loop-rest.ensures.back found.0
+          c.split_at-in-loop-rest.ensures.prefix c.split_at-in-loop-rest.ensures.back found.0
           ∙ ap (λ (ws : List Word). words_text ws ++ behind) (sym c.push.ensures.items);
       below = subst (λ (ws : List Word). All IsWord ws) (sym c.push.ensures.items) (All-push IsWord items word c.loop-rest.invariant.below found.1);
       only = λ words text all.
           let left = c.loop-rest.invariant.only words text all in
           let one = one-read left.0 c.loop-rest.rest.now _ _ _ _ word some c.split_at.ensures.back c.word_len.ensures.place
-          c.split_at-in-loop-rest.ensures.front c.split_at-in-loop-rest.ensures.back found.0 found.1 left.2 left.3 in (
+          c.split_at-in-loop-rest.ensures.prefix c.split_at-in-loop-rest.ensures.back found.0 found.1 left.2 left.3 in (
             one.0,
             left.1 ∙ ap (λ (ws : List Word). items ++ ws) one.1 ∙ sym (append_assoc items (word ∷ []) one.0) ∙ ap (λ (ws : List Word). ws ++ one.0) (sym c.push.ensures.items),
             one.2,

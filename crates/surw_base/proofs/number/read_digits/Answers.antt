@@ -2,7 +2,7 @@ use Rattle.std.proofs.Common.{◌≡◌, ◌<◌, ◌≤◌, ◌+◌, ◌-◌, �
 use Rattle.std.specs.Int.{IsInRange}
 use Rattle.std.specs.Char.{IsNotAsciiDigit}
 use Rattle.std.proofs.lemmas.Grind.{common_steps}
-use Rattle.surw_base.proofs.Digits.{AreRead, longest, longer-front, digit-front, one-more, past-first}
+use Rattle.surw_base.proofs.Digits.{AreRead, longest, longer-prefix, digit-prefix, one-more, past-first}
 use Rattle.surw_base.proofs.number.read_digits.Goals as goal
 
 pub returns-then-not-is_ascii_digit : goal.returns-then-not-is_ascii_digit
@@ -12,7 +12,7 @@ returns-then-not-is_ascii_digit c =
     let out : IsNotAsciiDigit (get_or text len 0) = c.if-not-is_ascii_digit.ensures.cases in
     let some : 0 < len = past-first IsNotAsciiDigit text len out (λ h. grind (arith, c.requires.first)) in
     longest text _ len c.loop-len.invariant some c.loop-len.auto.len-end
-    (λ n w lt within is. let digit = digit-front text n w len within is lt in grind arith)
+    (λ n w lt within is. let digit = digit-prefix text n w len within is lt in grind arith)
 
 pub returns-then-value-digit : goal.returns-then-value-digit
 returns-then-value-digit c =
@@ -22,7 +22,7 @@ returns-then-value-digit c =
     let is = c.from-digit.ensures in
     let some : 0 < len = grind (arith, c.loop-len.invariant.start) in
     longest text _ len c.loop-len.invariant some c.loop-len.auto.len-end
-    (λ n w lt within number. omega (arith, longer-front text c.loop-len.value len n w c.loop-len.invariant within number lt, number.below))
+    (λ n w lt within number. omega (arith, longer-prefix text c.loop-len.value len n w c.loop-len.invariant within number lt, number.below))
 
 pub loop-len-preserved : goal.loop-len-preserved
 loop-len-preserved c =

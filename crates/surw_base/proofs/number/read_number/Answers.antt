@@ -1,7 +1,7 @@
 use Rattle.std.proofs.Common.{◌<◌, length, slice_index, arith}
 use Rattle.std.proofs.lemmas.Grind.{common_steps}
 use Rattle.std.specs.Char.{IsNotAsciiDigit}
-use Rattle.surw_base.proofs.Digits.{none-empty, none-other, zero-front}
+use Rattle.surw_base.proofs.Digits.{none-empty, none-other, zero-prefix}
 use Rattle.surw_base.proofs.number.read_number.Goals as goal
 use Rattle.surw_base.proofs.number.read_number.Goals.{then-is_empty-via-then-is_empty, then-is_empty-via-else-is_empty+then-not-is_ascii_digit}
 
@@ -18,4 +18,4 @@ returns-then-is_empty c = elim c.then-is_empty.branch [
 pub returns-then-text-eq48 : goal.returns-then-text-eq48
 returns-then-text-eq48 c =
     let some : 0 < length c.args.text.now = grind (arith, common_steps) in
-    zero-front c.args.text.now some c.if-text-eq48.true
+    zero-prefix c.args.text.now some c.if-text-eq48.true

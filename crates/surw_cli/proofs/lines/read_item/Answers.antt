@@ -1,5 +1,5 @@
 use Rattle.std.proofs.Common.{ap, ◌∙◌, drop}
-use Rattle.surw_base.proofs.Fronts.{number-again, number-some}
+use Rattle.surw_base.proofs.Prefixes.{number-again, number-some}
 use Rattle.surw_cli.proofs.lines.read_item.Goals as goal
 
 pub returns-in-Some-read_number-clause-only : goal.returns-in-Some-read_number-clause-only

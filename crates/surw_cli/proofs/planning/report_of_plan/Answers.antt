@@ -17,7 +17,7 @@ returns-clause-report g c =
         file = record { held = c.in_ok-bytes.ensures.whole; short = c.in_ok-bytes.ensures.short };
         form = rw (← c.as_slice.ensures.value) c.in_ok-scenario.ensures.ok;
       };
-      ran = c.in_ok-run.run';
+      outcome = c.in_ok-run.run';
       run = record {
         plan = c.in_ok-plan.plan;
         planned = rw (← c.counts-counts.ensures) c.in_ok-plan.ensures.plan;

@@ -21,7 +21,7 @@ returns-in-Err-Refused-clause-ends g c =
     let fault = c.in-Err-Refused.fault in
     let stopped = subst (IsStop call.words call.coming call.shelf_before call.shelf_now) c.in-Err-Refused.field-0-is c.in-Err-Refused.ensures.stopped in
     rw c.status.ensures
-    (refusal-ends call fault stopped (told call (fault_text fault) c.put.result c.put.ensures.all c.put.ensures.front c.put.ensures.cause))
+    (refusal-ends call fault stopped (told call (fault_text fault) c.put.result c.put.ensures.all c.put.ensures.prefix c.put.ensures.cause))
 
 pub returns-in-Err-Unformed-clause-ends : goal.returns-in-Err-Unformed-clause-ends
 returns-in-Err-Unformed-clause-ends g c =
@@ -37,4 +37,4 @@ returns-in-Err-Unformed-clause-ends g c =
     } in
     let fault = c.in-Err-Unformed.fault in
     let stopped = subst (IsStop call.words call.coming call.shelf_before call.shelf_now) c.in-Err-Unformed.field-0-is c.in-Err-Unformed.ensures.stopped in
-    unformed-ends call fault stopped (told call (scenario_fault_text fault) c.put_fault.result c.put_fault.ensures.all c.put_fault.ensures.front c.put_fault.ensures.cause)
+    unformed-ends call fault stopped (told call (scenario_fault_text fault) c.put_fault.result c.put_fault.ensures.all c.put_fault.ensures.prefix c.put_fault.ensures.cause)

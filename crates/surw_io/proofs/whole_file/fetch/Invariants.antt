@@ -1,12 +1,12 @@
 use Rattle.std.proofs.Common.{◌≡◌, List, ℕ, Some, ◌-◌, ◌≤◌, length}
 use Rattle.surw_io.specs.Cause.{one_more}
-use Rattle.surw_io.specs.Content.{Missing, content_of, with_front}
+use Rattle.surw_io.specs.Content.{Missing, content_of, with_prefix}
 use Rattle.surw_io.proofs.whole_file.fetch.Given as goal
 
 abbrev pub invariant-loop-bytes : goal.invariant-loop-bytes
 invariant-loop-bytes g l = record {
   there : g.F.Shelf.coming l.fn.shelf l.name ≡ Some Missing → ⊥;
-  told : content_of (g.F.Shelf.coming l.fn.shelf l.name) ≡ with_front l.bytes.items (g.F.Shelf.left l.shelf);
+  told : content_of (g.F.Shelf.coming l.fn.shelf l.name) ≡ with_prefix l.bytes.items (g.F.Shelf.left l.shelf);
   short : length l.bytes.items ≤ l.limit;
   moved : (other : List ℕ) → g.F.Shelf.coming l.shelf other ≡ g.F.Shelf.coming_after l.fn.shelf other;
   calm : g.F.Shelf.in_faults l.shelf ≡ g.F.Shelf.in_faults l.fn.shelf;

@@ -20,12 +20,12 @@ next-at xs k lt = elim (slice_get_cases xs k).1 [
   | inr past ↦ absurd (omega (arith, lt, past.0))
 ]
 
--- an item of a front is the item of the whole, within the front
-pub front-item : {X : Type 0} (k : ℕ) (xs : List X) (j : ℕ) (x : X) → slice_get (take k xs) j ≡ Some x → (slice_get xs j ≡ Some x) × (j < k)
-front-item zero xs j x at = absurd (none-some x at)
-front-item (suc k) [] j x at = absurd (none-some x at)
-front-item (suc k) (y ∷ xs) zero x at = (at, omega arith)
-front-item (suc k) (y ∷ xs) (suc j) x at = let rest = front-item k xs j x at in (rest.0, omega (arith, rest.1))
+-- an item of a prefix is the item of the whole, within the prefix
+pub prefix-item : {X : Type 0} (k : ℕ) (xs : List X) (j : ℕ) (x : X) → slice_get (take k xs) j ≡ Some x → (slice_get xs j ≡ Some x) × (j < k)
+prefix-item zero xs j x at = absurd (none-some x at)
+prefix-item (suc k) [] j x at = absurd (none-some x at)
+prefix-item (suc k) (y ∷ xs) zero x at = (at, omega arith)
+prefix-item (suc k) (y ∷ xs) (suc j) x at = let rest = prefix-item k xs j x at in (rest.0, omega (arith, rest.1))
 
 -- an item of a list with one more is an item of the list, or the one more
 pub more-item : {X : Type 0} (xs : List X) (y : X) (k : ℕ) (x : X) → slice_get (xs ++ y ∷ []) k ≡ Some x
@@ -42,15 +42,15 @@ AtEach {X} P xs = (k : ℕ) (x : X) → slice_get xs k ≡ Some x → P (take k 
 pub each-none : {X : Type 0} (P : List X → X → Type 0) → AtEach P []
 each-none P k x at = absurd (none-some x at)
 
-pub each-front : {X : Type 0} (P : List X → X → Type 0) (xs : List X) (k : ℕ) → AtEach P xs → AtEach P (take k xs)
-each-front P xs k each j x at =
-    let whole = front-item k xs j x at in
-    subst (λ front. P front x) (sym (take-take j k xs (omega (arith, whole.1)))) (each j x whole.0)
+pub each-prefix : {X : Type 0} (P : List X → X → Type 0) (xs : List X) (k : ℕ) → AtEach P xs → AtEach P (take k xs)
+each-prefix P xs k each j x at =
+    let whole = prefix-item k xs j x at in
+    subst (λ prefix. P prefix x) (sym (take-take j k xs (omega (arith, whole.1)))) (each j x whole.0)
 
 pub each-more : {X : Type 0} (P : List X → X → Type 0) (xs : List X) (x : X) → AtEach P xs → P xs x → AtEach P (xs ++ x ∷ [])
 each-more P xs x each here k y at = elim (more-item xs x k y at) [
   | inl before ↦
-      subst (λ front. P front y) (sym (take-append-le k xs (x ∷ []) (omega (arith, slice_get_within xs k y before)))) (each k y before)
+      subst (λ prefix. P prefix y) (sym (take-append-le k xs (x ∷ []) (omega (arith, slice_get_within xs k y before)))) (each k y before)
   | inr last ↦
-      subst (λ front. P front y) (sym (take_at xs (x ∷ []) k (sym last.1))) (subst (λ z. P xs z) last.0 here)
+      subst (λ prefix. P prefix y) (sym (take_at xs (x ∷ []) k (sym last.1))) (subst (λ z. P xs z) last.0 here)
 ]
