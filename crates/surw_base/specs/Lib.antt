@@ -1,2 +1,4 @@
-pub mod Prefix
+pub mod Lines
 pub mod Number
+pub mod Prefix
+pub mod Tokens

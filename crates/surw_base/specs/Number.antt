@@ -1,7 +1,15 @@
--- The text of a number.
-use Rattle.std.specs.Prelude.{◌≡◌, ℕ, ◌^◌, ◌<◌, List, slice_index}
+-- Numbers of 64 bits, and the text of a number.
+use Rattle.std.specs.Prelude.{◌≡◌, ℕ, ◌+◌, ◌-◌, ◌%◌, ◌^◌, ◌<◌, List, slice_index}
 use Rattle.std.specs.Fmt.{decimal}
 use Rattle.std.specs.Int.{IsInRange}
+
+-- the greatest number, at which a count stays
+abbrev pub greatest : ℕ
+greatest = 2 ^ 64 - 1
+
+-- a sum modulo 2 ^ 64
+abbrev pub wrapping_sum : ℕ → ℕ → ℕ
+wrapping_sum m n = (m + n) % 2 ^ 64
 
 -- the bytes are the decimal digits of a number below 2 ^ 64, without leading zeros
 pub record IsNumberText (bytes : List ℕ) (n : ℕ) : Type 0 where

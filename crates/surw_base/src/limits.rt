@@ -19,6 +19,9 @@ pub const FRAMES: u16 = 64;
 /// The most slots of a log device.
 pub const SLOTS: u16 = 4_096;
 
+/// The most monitors of a run.
+pub const MONITORS: usize = 16;
+
 /// The most lines of a steps routine.
 pub const LINES: usize = 256;
 

@@ -1,4 +1,4 @@
-ghost use Rattle.std.specs.Prelude.{◌≡◌, ◌<◌, ◌≤◌, ◌++◌, length, take, slice_index, OnOk, OnErr, MatchOption};
+ghost use Rattle.std.specs.Prelude.{◌≡◌, ◌<◌, ◌≤◌, ◌++◌, ℕ, Some, length, take, slice_index, IfSome, OnOk, OnErr, MatchOption};
 ghost use Rattle.std.specs.Int.{IsInRange};
 ghost use Rattle.std.specs.Fmt.{decimal};
 ghost use Rattle.surw_base.specs.Prefix.{IsLongestPrefix, HasNoPrefix};
@@ -41,6 +41,16 @@ fn read_digits(text: &[u8]) -> (u64, usize)
         value = value * 10 + digit;
     }
     (value, text.len())
+}
+
+/// The number below 2^64 that a whole text writes in decimal digits, without leading zeros. None exactly where it
+/// writes none.
+pub fn read_whole_number(text: &[u8]) -> Option<u64>
+    ensures found { IfSome result (IsNumberText text.now) }
+    ensures only { (n : ℕ) → IsNumberText text.now n → result ≡ Some n }
+{
+    let (number, len) = read_number(text)?;
+    (len == text.len()).then_some(number)
 }
 
 /// Appends the decimal digits of a number. After a refusal the vector is unchanged.

@@ -1,7 +1,5 @@
-use Rattle.std.proofs.Common.{◌≡◌, ◌<◌, ◌≤◌, ◌+◌, ◌-◌, ◌*◌, ◌^◌, arith, get_or, subst, ap, sym, ℕ, rules, length}
-use Rattle.std.specs.Int.{IsInRange}
+use Rattle.std.proofs.Common.{◌≡◌, ◌<◌, ◌+◌, ◌*◌, arith, get_or, subst, sym, ℕ, length}
 use Rattle.std.specs.Char.{IsNotAsciiDigit}
-use Rattle.std.proofs.lemmas.Grind.{common_steps}
 use Rattle.surw_base.proofs.Digits.{AreRead, longest, longer-prefix, digit-prefix, one-more, past-first}
 use Rattle.surw_base.proofs.number.read_digits.Goals as goal
 
