@@ -1,15 +1,16 @@
 -- Plans: by their setup and by what their routines announce.
-use Rattle.std.specs.Prelude.{◌≡◌, ℕ, length, Option}
-use Rattle.event_class.specs.declared.event.Event.{Event}
-use Rattle.seed_draws.specs.Answers.{Source}
+use Rattle.std.specs.Prelude.{◌≡◌, length}
+use Rattle.routine_kit.specs.declared.routine.Routine as routine
+use Rattle.seed_draws.specs.declared.draws.Draws as draws
+use Rattle.seed_draws.specs.Answers.{Source, source_of}
 use Rattle.walk_rules.specs.State.{new_walk}
 use Rattle.run_rules.specs.declared.plan.Plan.{Plan}
 use Rattle.run_rules.specs.Setup.{Setup, Script, IsValid}
 use Rattle.run_rules.specs.Told.{routines_say}
 
--- the setup of a plan, with its two sources as they answer
-abbrev pub setup_of : {R S O : Type 0} → Source → Source → Plan R S O → Setup
-setup_of selected other plan = record {
+-- the setup of a plan, with these for its two sources
+abbrev pub setup_with : {R S O : Type 0} → Source → Source → Plan R S O → Setup
+setup_with selected other plan = record {
   size = plan.world;
   threads = length plan.routines.items;
   selection = plan.selection;
@@ -21,12 +22,16 @@ setup_of selected other plan = record {
   monitors = plan.monitors.items;
 }
 
+-- and with its own, by how sources of their kinds answer
+abbrev pub setup_of : {R S O : Type 0} → draws.Ghosts S → draws.Ghosts O → Plan R S O → Setup
+setup_of selected_draws other_draws plan = setup_with (source_of selected_draws plan.selected) (source_of other_draws plan.other) plan
+
 -- a plan by its setup and by what its routines announce
-abbrev pub script_of : {R S O : Type 0} → (R → Option Event) → (R → ℕ → R) → Source → Source → Plan R S O → Script
-script_of announced after selected other plan =
-    record { setup = setup_of selected other plan; says = routines_say announced after plan.routines.items }
+abbrev pub script_of : {R S O : Type 0} → routine.Ghosts R → draws.Ghosts S → draws.Ghosts O → Plan R S O → Script
+script_of behaviour selected_draws other_draws plan =
+    record { setup = setup_of selected_draws other_draws plan; says = routines_say behaviour plan.routines.items }
 
 -- a plan that can be run, whatever its sources answer
 pub record IsValidPlan {R S O : Type 0} (plan : Plan R S O) : Type 0 where
-  pub valid : (selected other : Source) → IsValid (setup_of selected other plan)
+  pub valid : (selected other : Source) → IsValid (setup_with selected other plan)
   pub fresh : plan.walk ≡ new_walk plan.walk.rule plan.walk.counts

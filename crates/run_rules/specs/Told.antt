@@ -2,6 +2,7 @@
 use Rattle.std.specs.Prelude.{ℕ, ◌==◌, List, map, Option, None, Some, slice_get}
 use Rattle.std.specs.List.{filter}
 use Rattle.event_class.specs.declared.event.Event.{Event}
+use Rattle.routine_kit.specs.declared.routine.Routine.{Ghosts}
 use Rattle.routine_kit.specs.Run.{after_replies}
 use Rattle.run_rules.specs.declared.entry.Entry.{Entry}
 use Rattle.run_rules.specs.Setup.{Script}
@@ -15,9 +16,9 @@ abbrev pub said : Script → List Entry → ℕ → Option Event
 said script journal thread = script.says thread (replies_told journal thread)
 
 -- what the routine of that number announces after some replies, and nothing where there is none
-abbrev pub routine_says : {R : Type 0} → (R → Option Event) → (R → ℕ → R) → Option R → List ℕ → Option Event
-routine_says announced after None replies = None
-routine_says announced after (Some routine) replies = announced (after_replies after routine replies)
+abbrev pub routine_says : {R : Type 0} → Ghosts R → Option R → List ℕ → Option Event
+routine_says behaviour None replies = None
+routine_says behaviour (Some routine) replies = behaviour.announced (after_replies behaviour.after_reply routine replies)
 
-abbrev pub routines_say : {R : Type 0} → (R → Option Event) → (R → ℕ → R) → List R → ℕ → List ℕ → Option Event
-routines_say announced after routines thread replies = routine_says announced after (slice_get routines thread) replies
+abbrev pub routines_say : {R : Type 0} → Ghosts R → List R → ℕ → List ℕ → Option Event
+routines_say behaviour routines thread replies = routine_says behaviour (slice_get routines thread) replies

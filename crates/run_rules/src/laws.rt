@@ -1,6 +1,5 @@
 //! What holds of every plan. A law does nothing when it is called: its contract is the law.
 
-ghost use Rattle.seed_draws.specs.Answers.{source_of};
 ghost use Rattle.run_rules.specs.Plan.{script_of, IsValidPlan};
 ghost use Rattle.run_rules.specs.Run.{OneRun, OneTelling};
 ghost use Rattle.run_rules.specs.Setup.{Script};
@@ -12,7 +11,7 @@ use seed_draws::Draws;
 /// Exactly one journal is the run of a valid plan.
 pub fn one_run<R: Routine, S: Draws, O: Draws>(plan: &Plan<R, S, O>)
     requires { IsValidPlan plan.now }
-    ensures { OneRun (script_of R.announced R.after_reply (source_of S.Draws plan.now.selected) (source_of O.Draws plan.now.other) plan.now) }
+    ensures { OneRun (script_of R.Routine S.Draws O.Draws plan.now) }
 {
     let _ = plan;
 }

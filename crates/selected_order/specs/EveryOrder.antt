@@ -1,12 +1,11 @@
 -- Every order is the selected order of those draw lists that name it, whatever the other draws are.
-use Rattle.std.specs.Prelude.{◌≡◌, ℕ, List, Option, count_by}
+use Rattle.std.specs.Prelude.{◌≡◌, ℕ, List, count_by}
 use Rattle.std.specs.Str.{bytes_eq}
 use Rattle.draw_split.specs.AllDraws.{all_draws, factorials}
 use Rattle.draw_split.specs.DrawList.{IsDrawList}
 use Rattle.draw_split.specs.Named.{named_order}
 use Rattle.draw_split.specs.Rooms.{Fits}
-use Rattle.event_class.specs.declared.event.Event.{Event}
-use Rattle.seed_draws.specs.Answers.{source_of}
+use Rattle.routine_kit.specs.declared.routine.Routine.{Ghosts}
 use Rattle.seed_draws.specs.Tape.{Tape}
 use Rattle.seed_draws.specs.TapeSource.{loose_draws, loose_tape, strict_draws, strict_tape}
 use Rattle.walk_rules.specs.declared.rule.Rule.TheVariants.{Surw}
@@ -19,8 +18,8 @@ use Rattle.run_rules.specs.Setup.{Script}
 use Rattle.selected_order.specs.SurwScript.{IsTame}
 
 -- the script of a plan over tapes
-abbrev pub tape_script : {R : Type 0} → (R → Option Event) → (R → ℕ → R) → Plan R Tape Tape → Script
-tape_script announced after plan = script_of announced after (source_of strict_draws plan.selected) (source_of loose_draws plan.other) plan
+abbrev pub tape_script : {R : Type 0} → Ghosts R → Plan R Tape Tape → Script
+tape_script behaviour plan = script_of behaviour strict_draws loose_draws plan
 
 -- a script with these tapes for its sources
 abbrev pub with_tapes : Script → List ℕ → List ℕ → Script

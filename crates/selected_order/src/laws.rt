@@ -26,8 +26,8 @@ pub fn ends_unforced()
 /// lists.
 pub fn every_order<R: Routine>(plan: &Plan<R, StrictTape, LooseTape>)
     requires { IsValidPlan plan.now }
-    ensures named { EveryOrderOf (tape_script R.announced R.after_reply plan.now) }
-    ensures equally { OrdersComeEquallyOftenOf (tape_script R.announced R.after_reply plan.now) }
+    ensures named { EveryOrderOf (tape_script R.Routine plan.now) }
+    ensures equally { OrdersComeEquallyOftenOf (tape_script R.Routine plan.now) }
 {
     let _ = plan;
 }
@@ -36,7 +36,7 @@ pub fn every_order<R: Routine>(plan: &Plan<R, StrictTape, LooseTape>)
 /// same verdict.
 pub fn surw_is_urw<R: Routine>(plan: &Plan<R, StrictTape, LooseTape>)
     requires { IsValidPlan plan.now }
-    ensures { SurwIsUrwOf (tape_script R.announced R.after_reply plan.now) }
+    ensures { SurwIsUrwOf (tape_script R.Routine plan.now) }
 {
     let _ = plan;
 }

@@ -6,9 +6,9 @@ use Rattle.selected_order.proofs.laws.every_order.Goals as goal
 pub returns-clause-named : goal.returns-clause-named
 returns-clause-named g c =
     let plan = c.args.plan.now in
-    every-order (tape_script g.R.Routine.announced g.R.Routine.after_reply plan)
+    every-order (tape_script g.R.Routine plan)
     (λ draws others. c.requires.valid (strict_tape draws) (loose_tape others))
 
 pub returns-clause-equally : goal.returns-clause-equally
 returns-clause-equally g c =
-    orders-come-equally-often (tape_script g.R.Routine.announced g.R.Routine.after_reply c.args.plan.now)
+    orders-come-equally-often (tape_script g.R.Routine c.args.plan.now)

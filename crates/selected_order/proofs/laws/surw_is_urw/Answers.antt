@@ -12,5 +12,5 @@ returns g c =
     let plan = c.args.plan.now in
     let selected = source_of strict_draws plan.selected in
     let other = source_of loose_draws plan.other in
-    surw-is-urw (tape_script g.R.Routine.announced g.R.Routine.after_reply plan) (c.requires.valid selected other).counted
+    surw-is-urw (tape_script g.R.Routine plan) (c.requires.valid selected other).counted
     (is-source strict_draws strict_below plan.selected) (is-source loose_draws loose_below plan.other) (loose-never plan.other)
