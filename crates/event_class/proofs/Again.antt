@@ -1,7 +1,7 @@
 -- An event that is printed and not followed by a digit is the longest prefix, and so is read again.
 use Rattle.std.proofs.Common.{◌≡◌, ℕ, ◌+◌, ◌^◌, ◌<◌, List, [], ◌∷◌, ◌++◌, length, get_or, take, drop, refl, ap, sym, subst, ◌∙◌, arith, add-zero}
 use Rattle.std.proofs.lemmas.List.{append-nil, append_assoc, drop-drop, drop_at, get_or-drop, append_cancel_left, nil_from_length, length-take-le, length-drop}
-use Rattle.std.proofs.lemmas.List.Prefix.{prefix_rest}
+use Rattle.std.proofs.lemmas.List.Prefix.{front_rest}
 use Rattle.std.proofs.lemmas.List.Elements.{All-head, All-tail, All-nil}
 use Rattle.std.specs.Fmt.{decimal}
 use Rattle.surw_base.proofs.Prefixes.{BeginsWithNoDigit, number-prefix, number-again, longest-length}
@@ -119,7 +119,7 @@ printed-prefix text event tail is =
     let verb = verb_of event in
     let ns = numbers_of event in
     let begins : text ≡ verb ++ (numbers_text ns ++ tail) = is.text ∙ append_assoc verb (numbers_text ns) tail in
-    let rest : drop (length verb) text ≡ numbers_text ns ++ tail = prefix_rest text verb (numbers_text ns ++ tail) begins in
+    let rest : drop (length verb) text ≡ numbers_text ns ++ tail = front_rest text verb (numbers_text ns ++ tail) begins in
     let numbers = numbers-from (drop (length verb) text) ns [] ns tail 0 (length ns) 0 is.below is.apart refl refl rest (none-yet (drop (length verb) text)) in
     let whole = longest-event text event event ns numbers.0 (true-begins text verb (numbers_text ns ++ tail) begins) refl refl numbers.1 in
     let long : length verb + numbers.0 ≡ length (event_text event) =
@@ -143,4 +143,4 @@ printed-again text event tail v len is longest =
 
 -- what is left behind it is the rest
 pub printed-rest : (text : List ℕ) (event : Event) (tail : List ℕ) → IsPrinted text event tail → drop (length (event_text event)) text ≡ tail
-printed-rest text event tail is = prefix_rest text (event_text event) tail is.text
+printed-rest text event tail is = front_rest text (event_text event) tail is.text

@@ -2,7 +2,7 @@
 use Rattle.std.proofs.Common.{◌≡◌, ℕ, ◌+◌, ◌-◌, ◌<◌, ◌≤◌, IsTrue, nat_eq, unwrap_or, List, ◌++◌, length, get_or, take, drop, refl, ap, sym, subst, ◌∙◌, arith, lit<, length-append}
 use Rattle.std.proofs.lemmas.Bool.Decides.{Decides-eqb}
 use Rattle.std.proofs.lemmas.List.{take-append-drop, length-take-le, take_at, length-drop, append_assoc}
-use Rattle.std.proofs.lemmas.List.Prefix.{prefix_rest}
+use Rattle.std.proofs.lemmas.List.Prefix.{front_rest}
 use Rattle.std.proofs.lemmas.Slice.Eq.{starts_is}
 use Rattle.std.proofs.Math.Seq.{take-add}
 use Rattle.std.specs.List.{starts_with, find, position}
@@ -58,7 +58,7 @@ parts text n event within is =
     let numbers = numbers_text (numbers_of event) in
     let whole : text ≡ verb ++ (numbers ++ drop n text) =
     sym (take-append-drop n text) ∙ ap (λ (l : List ℕ). l ++ drop n text) is.text ∙ append_assoc verb numbers (drop n text) in
-    let rest : drop (length verb) text ≡ numbers ++ drop n text = prefix_rest text verb (numbers ++ drop n text) whole in
+    let rest : drop (length verb) text ≡ numbers ++ drop n text = front_rest text verb (numbers ++ drop n text) whole in
     let long : n ≡ length verb + length numbers = omega (arith, length-take-le n text within, ap length is.text, length-append verb numbers) in
     let less : n - length verb ≡ length numbers = omega (arith, long) in
     record {

@@ -1,5 +1,6 @@
 ghost use Rattle.std.specs.Prelude.{◌≡◌, ◌<◌, ◌≤◌, IfOk, length, replicate, slice_index, slice_set};
-ghost use Rattle.test_world.specs.World.{value_or_max, zero_or_max, sum_word, swapped};
+ghost use Rattle.surw_base.specs.Number.{wrapping_sum};
+ghost use Rattle.test_world.specs.World.{value_or_greatest, zero_or_greatest, swapped};
 
 use std::alloc::Global;
 use std::marker::Model;
@@ -38,14 +39,14 @@ impl Cells {
 
     /// Replies the number of cell `c`.
     pub(crate) fn load(&self, c: u64) -> u64
-        ensures { result ≡ value_or_max self.now c }
+        ensures { result ≡ value_or_greatest self.now c }
     {
         self.values.get(c as usize).copied().unwrap_or(u64::MAX)
     }
 
     /// Gives cell `c` the number `v`.
     pub(crate) fn store(&mut self, c: u64, v: u64) -> u64
-        ensures reply { result ≡ zero_or_max self.old c }
+        ensures reply { result ≡ zero_or_greatest self.old c }
         ensures after { self.new ≡ slice_set self.old c v }
     {
         match self.values.get_mut(c as usize) {
@@ -59,8 +60,8 @@ impl Cells {
 
     /// Adds `v` to cell `c`, modulo 2^64, and replies the number before.
     pub(crate) fn add(&mut self, c: u64, v: u64) -> u64
-        ensures reply { result ≡ value_or_max self.old c }
-        ensures after { self.new ≡ slice_set self.old c (sum_word (slice_index self.old c) v) }
+        ensures reply { result ≡ value_or_greatest self.old c }
+        ensures after { self.new ≡ slice_set self.old c (wrapping_sum (slice_index self.old c) v) }
     {
         match self.values.get_mut(c as usize) {
             Some(value) => {
@@ -74,7 +75,7 @@ impl Cells {
 
     /// Gives cell `c` the number `b` if it has `a`, and replies the number before.
     pub(crate) fn swap_if(&mut self, c: u64, a: u64, b: u64) -> u64
-        ensures reply { result ≡ value_or_max self.old c }
+        ensures reply { result ≡ value_or_greatest self.old c }
         ensures after { self.new ≡ slice_set self.old c (swapped (slice_index self.old c) a b) }
     {
         match self.values.get_mut(c as usize) {

@@ -1,5 +1,5 @@
 ghost use Rattle.std.specs.Prelude.{◌≡◌, ◌<◌, ◌≤◌, IfOk, Some, None, length, replicate, slice_set};
-ghost use Rattle.test_world.specs.World.{holder_of, is_free, zero_or_max, released, release_reply};
+ghost use Rattle.test_world.specs.World.{holder_of, is_free, zero_or_greatest, released, release_reply};
 
 use std::alloc::Global;
 use std::marker::Model;
@@ -45,7 +45,7 @@ impl Locks {
 
     /// Gives lock `l` to the thread.
     pub(crate) fn acquire(&mut self, thread: ThreadNo, l: u64) -> u64
-        ensures reply { result ≡ zero_or_max self.old l }
+        ensures reply { result ≡ zero_or_greatest self.old l }
         ensures after { self.new ≡ slice_set self.old l (Some thread) }
     {
         match self.holders.get_mut(l as usize) {
