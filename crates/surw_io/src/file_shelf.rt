@@ -1,10 +1,14 @@
 // Trusted edge: no clause says that these calls reach the real files; a test shows it.
-ghost use Rattle.std.specs.Prelude.{◌≡◌, ℕ, List, None};
+ghost use Rattle.std.specs.Prelude.{◌≡◌, ◌≤◌, ℕ, List, None, length, drop, is_some, is_ok, IfOk};
+ghost use Rattle.std.specs.Io.KnownBytes.{ReadConsumes};
+ghost use Rattle.surw_io.specs.Cause.{HasCause, one_more};
+ghost use Rattle.surw_io.specs.FileShelf.{to_read};
 
 use crate::whole_file::READ_SIZE;
 use crate::{Failed, Shelf};
 use std::fs;
 use std::io::Read;
+use std::marker::Model;
 use std::rt::Files;
 
 /// Real files. It tells nothing of what they hold, and counts as a fault each call that the system refused.
@@ -16,11 +20,23 @@ pub struct FileShelf<'a, R: Files> {
     faults: u64,
 }
 
+impl<'a, R: Files> Model for FileShelf<'a, R> {
+    ghost use Rattle.std.specs.Prelude.{option_map};
+    ghost use Rattle.surw_io.specs.FileShelf.{FilesState};
+
+    ghost Value = { FilesState };
+
+    ghost view = { λ shelf. record {
+      file = option_map (λ file. R.File.remaining file) shelf.file;
+      opens = shelf.opens;
+      faults = shelf.faults;
+    } };
+}
+
 impl<'a, R: Files> FileShelf<'a, R> {
     /// A shelf of the runtime's files. Nothing is opened.
     pub fn new(rt: &'a R) -> FileShelf<'a, R>
-        ensures opens { ⟦<FileShelf<'a, R> as Shelf>⟧.opens result ≡ 0 }
-        ensures in_faults { ⟦<FileShelf<'a, R> as Shelf>⟧.in_faults result ≡ 0 }
+        ensures { result ≡ record { file = None; opens = 0; faults = 0 } }
     {
         FileShelf {
             rt,
@@ -42,7 +58,12 @@ impl<'a, R: Files> Shelf for FileShelf<'a, R> {
 
     ghost in_faults = { λ shelf. shelf.faults };
 
-    fn open(&mut self, name: &str) -> Result<(), Failed> {
+    /// A file is open after `Ok`, and none after `Failed`.
+    fn open(&mut self, name: &str) -> Result<(), Failed>
+        ensures file { is_some self.new.file ≡ is_ok result }
+        ensures opens { self.new.opens ≡ one_more self.old.opens }
+        ensures cause { HasCause self.old.faults self.new.faults result ⊥ }
+    {
         self.opens = self.opens.saturating_add(1);
         self.file = None;
         match fs::open(self.rt, name) {
@@ -57,8 +78,16 @@ impl<'a, R: Files> Shelf for FileShelf<'a, R> {
         }
     }
 
+    /// Moves the bytes that the open file gives, and none where no file is open.
     // The bytes go through a buffer, since a real read may write behind those that it counts.
-    fn read(&mut self, into: &mut [u8]) -> Result<usize, Failed> {
+    fn read(&mut self, into: &mut [u8]) -> Result<usize, Failed>
+        ensures within { IfOk result (λ n. n ≤ length into.old) }
+        ensures bytes { ReadConsumes (to_read self.old.file) (to_read self.new.file) result into.new }
+        ensures rest { IfOk result (λ n. drop n into.new ≡ drop n into.old) }
+        ensures file { is_some self.new.file ≡ is_some self.old.file }
+        ensures opens { self.new.opens ≡ self.old.opens }
+        ensures cause { HasCause self.old.faults self.new.faults result ⊥ }
+    {
         let Some(file) = &mut self.file else {
             return Ok(0);
         };
@@ -96,6 +125,8 @@ mod tests {
         assert_eq!(rt; short.err(), Some(FetchFault::TooLong { taken: 6 }));
         let gone = fetch(rt.alloc(), &mut shelf, NAME, 100);
         assert_eq!(rt; gone.err(), Some(FetchFault::Failed));
+        // The rest of the file that was open before is gone too.
+        assert_eq!(rt; shelf.read(&mut [0; 4]), Ok(0));
         assert_eq!(rt; (shelf.opens, shelf.faults), (3, 1));
         Ok(())
     }

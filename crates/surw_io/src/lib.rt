@@ -1,8 +1,9 @@
 //! The outside as SURW sees it: a shelf of named files, a sink for what is printed, and the two loops over
 //! them.
 //!
-//! A device may tell what it holds (`MemShelf`, `MemSink`) or nothing (`FileShelf`, `StdSink`). Either way
-//! it counts its faults, and a call fails only where that count rose, or where there is no such file.
+//! A device may tell what it holds (`MemShelf`, `MemSink`) or nothing (`FileShelf`, `StdSink`), and a
+//! `WriteSink` tells what its writer tells. Either way it counts its faults, and a call fails only where that
+//! count rose, or where there is no such file.
 #![tactic(auto)]
 
 mod calls;
@@ -15,7 +16,9 @@ mod safe_sink;
 mod shelf;
 mod sink;
 mod std_sink;
+mod steady_write;
 mod whole_file;
+mod write_sink;
 
 pub use failed::Failed;
 pub use file_shelf::FileShelf;
@@ -26,4 +29,6 @@ pub use safe_sink::SafeSink;
 pub use shelf::Shelf;
 pub use sink::{Sink, put_all};
 pub use std_sink::StdSink;
+pub use steady_write::SteadyWrite;
 pub use whole_file::{FetchFault, fetch};
+pub use write_sink::WriteSink;
