@@ -1,9 +1,10 @@
 -- Counts of faults, and why a call fails.
-use Rattle.std.specs.Prelude.{◌≡◌, ◌⊎◌, ℕ, ◌+◌, ◌-◌, ◌^◌, ◌≤◌, min, Result, OnOk, OnErr}
+use Rattle.std.specs.Prelude.{◌≡◌, ◌⊎◌, ℕ, ◌+◌, ◌≤◌, min, Result, OnOk, OnErr}
+use Rattle.surw_base.specs.Number.{greatest}
 
--- one more, but the greatest u64 stays
+-- one more, but the greatest number stays
 abbrev pub one_more : ℕ → ℕ
-one_more count = min (count + 1) (2 ^ 64 - 1)
+one_more count = min (count + 1) greatest
 
 -- the count is greater, or stands at its greatest value
 abbrev pub Rose : ℕ → ℕ → Type 0

@@ -1,4 +1,4 @@
-use Rattle.std.proofs.Common.{◌≡◌, ℕ, ◌<◌, List, [], Some, length, min, refl, ap, sym, ◌∙◌, ◌∷◌, add-one, arith}
+use Rattle.std.proofs.Common.{◌≡◌, ℕ, ◌<◌, List, [], Some, length, min, refl, ap, sym, ◌∙◌, ◌∷◌, arith}
 use Rattle.std.proofs.lemmas.Result.{IfOk-weaker}
 use Rattle.surw_io.specs.Content.{File}
 use Rattle.surw_io.specs.SafeShelf.{TextsState}
@@ -8,7 +8,7 @@ use Rattle.surw_io.proofs.safe_shelf.SafeShelfShelf.TheImpl.Goals as goal
 -- where nothing is moved into some room, nothing is left
 none_left : (room : ℕ) (left : List ℕ) → 0 < room → 0 ≡ min room (length left) → left ≡ []
 none_left room [] some none = refl
-none_left room (byte ∷ left) some none = absurd (omega (arith, add-one))
+none_left room (byte ∷ left) some none = absurd (omega arith)
 
 pub open-tells : goal.open-tells
 open-tells g c =
