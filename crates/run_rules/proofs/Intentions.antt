@@ -6,9 +6,9 @@ use Rattle.event_class.specs.declared.pickable.Pickable.{Pickable}
 use Rattle.draw_split.specs.Bag.{pick}
 use Rattle.seed_draws.specs.declared.draw_fault.DrawFault.{DrawFault}
 use Rattle.run_rules.specs.declared.entry.Entry.{Entry}
-use Rattle.run_rules.specs.Made.{numbers_left}
-use Rattle.run_rules.specs.Setup.{Setup}
 use Rattle.run_rules.specs.Intention.{ends_intention, ending_prefixes, intention_lefts, last_left, picked_from, intended_by, intended_after}
+use Rattle.run_rules.specs.NumbersLeft.{numbers_left}
+use Rattle.run_rules.specs.Setup.{Setup}
 
 -- the prefixes of a journal with one entry more: the same, and the whole where the entry ends the intention
 prefixes-more : (selection : List Pickable) (before journal : List Entry) (entry : Entry)

@@ -7,7 +7,7 @@ use Rattle.std.specs.List.{filter}
 use Rattle.test_world.specs.World.{WorldState, after}
 use Rattle.run_rules.specs.declared.entry.Entry.{Entry}
 use Rattle.run_rules.specs.Journal.{world_after}
-use Rattle.run_rules.specs.Told.{replies_told}
+use Rattle.run_rules.specs.Replies.{replies_told}
 
 -- the world after two journals, one after the other
 pub world-append : (world : WorldState) (journal more : List Entry)

@@ -9,7 +9,8 @@ use Rattle.event_class.specs.declared.pickable.Pickable.{Pickable}
 use Rattle.event_class.specs.Selection.{has}
 use Rattle.draw_split.specs.Bag.{less_one}
 use Rattle.run_rules.specs.declared.entry.Entry.{Entry}
-use Rattle.run_rules.specs.Made.{events_made, numbers_left}
+use Rattle.run_rules.specs.EventsMade.{events_made}
+use Rattle.run_rules.specs.NumbersLeft.{numbers_left}
 
 -- one event more where the entry is selected and the thread's
 pub made-more : (selection : List Pickable) (journal : List Entry) (entry : Entry) (thread : ℕ)
@@ -107,3 +108,10 @@ left-any selection counts journal thread = elim (cases_lt thread (length counts)
       let none : get_or counts thread 0 ≡ 0 = get_or_past counts thread 0 past in
       get_or_past (numbers_left selection counts journal) thread 0 (omega (arith, past, length-left selection counts journal)) ∙ omega (arith, none)
 ]
+
+-- nothing is taken from the counts yet
+pub left-none : (selection : List Pickable) (counts : List ℕ) → numbers_left selection counts [] ≡ counts
+unfolding events_made
+left-none selection counts =
+    ext_get_or 0 (numbers_left selection counts []) counts (length-left selection counts [])
+    (λ thread below. left-any selection counts [] thread ∙ omega arith)

@@ -7,58 +7,56 @@ use Rattle.std.proofs.lemmas.List.FromFn.{fill_by_all, get_or-map-range_with_len
 use Rattle.std.specs.List.{range_with_len}
 use Rattle.event_class.specs.declared.event.Event.{Event}
 use Rattle.run_rules.specs.declared.entry.Entry.{Entry}
-use Rattle.run_rules.specs.Legal.{IsLegal, IsLegalNext}
+use Rattle.run_rules.specs.LegalJournal.{IsLegal, IsLegalNext}
 use Rattle.run_rules.specs.Position.{position_at, position_of}
+use Rattle.run_rules.specs.Replies.{announcement}
 use Rattle.run_rules.specs.Setup.{Script}
-use Rattle.run_rules.specs.Told.{said}
-use Rattle.run_rules.proofs.Prefixes.{IsNext, next-at, each-prefix, each-more}
+use Rattle.run_rules.proofs.EarlierPositions.{position-again, position-here}
 use Rattle.run_rules.proofs.Journals.{told-other}
-use Rattle.run_rules.proofs.Positions.{position-again, position-here}
+use Rattle.run_rules.proofs.Prefixes.{IsNext, next-at, each-prefix, each-more}
 
 -- an entry changes only what its own thread announces
-pub said-other : (script : Script) (journal : List Entry) (entry : Entry) (thread : ℕ) → entry.thread ≢ thread
-    → said script (journal ++ entry ∷ []) thread ≡ said script journal thread
-said-other script journal entry thread ne = ap (λ replies. script.says thread replies) (told-other journal entry thread ne)
+pub announcement-other : (script : Script) (journal : List Entry) (entry : Entry) (thread : ℕ) → entry.thread ≢ thread
+    → announcement script (journal ++ entry ∷ []) thread ≡ announcement script journal thread
+announcement-other script journal entry thread ne = ap (λ replies. script.says thread replies) (told-other journal entry thread ne)
 
 -- what the threads announce after a journal
 abbrev words_of : Script → List Entry → List (Option Event)
-words_of script journal = map (λ thread. said script journal thread) (range_with_len 0 script.setup.threads)
+words_of script journal = map (λ thread. announcement script journal thread) (range_with_len 0 script.setup.threads)
 
-words-before : (script : Script) (journal : List Entry) (entry : Entry) → said script journal entry.thread ≡ Some entry.event
+words-before : (script : Script) (journal : List Entry) (entry : Entry) → announcement script journal entry.thread ≡ Some entry.event
     → set (words_of script (journal ++ entry ∷ [])) entry.thread (Some entry.event) ≡ words_of script journal
 words-before script journal entry announced =
     let longer : List Entry = journal ++ entry ∷ [] in
     let n : ℕ = script.setup.threads in
-    let long : length (words_of script longer) ≡ n = length-map-range_with_len (λ thread. said script longer thread) 0 n in
-    fill_by_all (λ thread. said script journal thread) (set (words_of script longer) entry.thread (Some entry.event)) n None
+    let long : length (words_of script longer) ≡ n = length-map-range_with_len (λ thread. announcement script longer thread) 0 n in
+    fill_by_all (λ thread. announcement script journal thread) (set (words_of script longer) entry.thread (Some entry.event)) n None
     (length-set (words_of script longer) entry.thread (Some entry.event) ∙ long)
     (λ k lt. elim (cases_eq k entry.thread) [
       | inl same ↦
           ap (λ thread. get_or (set (words_of script longer) thread (Some entry.event)) k None) (sym same)
           ∙ get_or-set_same (words_of script longer) k (Some entry.event) None (omega (arith, long))
-          ∙ sym (ap (λ thread. said script journal thread) same ∙ announced)
+          ∙ sym (ap (λ thread. announcement script journal thread) same ∙ announced)
       | inr differ ↦
           get_or-set_other (words_of script longer) entry.thread k (Some entry.event) None differ
-          ∙ get_or-map-range_with_len (λ thread. said script longer thread) 0 n k k None lt (omega arith)
-          ∙ said-other script journal entry k (λ same. differ (sym same))
+          ∙ get_or-map-range_with_len (λ thread. announcement script longer thread) 0 n k k None lt (omega arith)
+          ∙ announcement-other script journal entry k (λ same. differ (sym same))
     ])
 
 -- a script's position has a word for each thread
 pub length-words : (script : Script) (journal : List Entry) → length (position_of script journal).words ≡ script.setup.threads
 unfolding position_of
-length-words script journal = length-map-range_with_len (λ thread. said script journal thread) 0 script.setup.threads
+length-words script journal = length-map-range_with_len (λ thread. announcement script journal thread) 0 script.setup.threads
 
 -- the word of a thread is what it announces
-pub word-said : (script : Script) (journal : List Entry) (thread : ℕ) (event : Event) → thread < length (position_of script journal).words
-    → get_or (position_of script journal).words thread None ≡ Some event → said script journal thread ≡ Some event
+pub word-announcement : (script : Script) (journal : List Entry) (thread : ℕ) → thread < script.setup.threads
+    → get_or (position_of script journal).words thread None ≡ announcement script journal thread
 unfolding position_of
-word-said script journal thread event within word =
-    let says : ℕ → Option Event = λ t. said script journal t in
-    let below : thread < script.setup.threads = omega (arith, within, length-words script journal) in
-    sym (get_or-map-range_with_len says 0 script.setup.threads thread thread None below (omega arith)) ∙ word
+word-announcement script journal thread within =
+    get_or-map-range_with_len (λ t. announcement script journal t) 0 script.setup.threads thread thread None within (omega arith)
 
 -- an entry more that was announced changes no position up to it
-pub script-more : (script : Script) (journal : List Entry) (entry : Entry) (k : ℕ) → said script journal entry.thread ≡ Some entry.event → k ≤ length journal
+pub script-more : (script : Script) (journal : List Entry) (entry : Entry) (k : ℕ) → announcement script journal entry.thread ≡ Some entry.event → k ≤ length journal
     → position_at (position_of script (journal ++ entry ∷ [])) k ≡ position_at (position_of script journal) k
 unfolding position_of
 script-more script journal entry k announced within =

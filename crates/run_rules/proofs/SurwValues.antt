@@ -10,13 +10,14 @@ use Rattle.walk_rules.specs.declared.rule.Rule.TheVariants.{Plain}
 use Rattle.walk_rules.specs.Seen.{able_threads}
 use Rattle.walk_rules.specs.State.{new_memory}
 use Rattle.walk_rules.specs.Surw.{narrow}
+use Rattle.run_rules.specs.EventsMade.{events_made}
+use Rattle.run_rules.specs.Intention.{ending_prefixes, intended_after, intention_lefts}
 use Rattle.run_rules.specs.Journal.{world_after}
-use Rattle.run_rules.specs.Made.{events_made, numbers_left}
+use Rattle.run_rules.specs.NumbersLeft.{numbers_left}
 use Rattle.run_rules.specs.Position.{Position, earlier, position_at, seen_at, words_before}
 use Rattle.run_rules.specs.Setup.{Setup}
-use Rattle.run_rules.specs.Intention.{ending_prefixes, intended_after, intention_lefts}
 use Rattle.run_rules.specs.SurwChoice.{is_due_after, surw_choice, surw_memory_at}
-use Rattle.run_rules.proofs.IntendedSums.{intentions_asked}
+use Rattle.run_rules.proofs.IntentionSums.{intentions_asked}
 
 -- the rule isn't looked at
 abbrev setup : Setup

@@ -1,29 +1,28 @@
 -- Where a thread is able: it has a word, and its event is enabled.
-use Rattle.std.proofs.Common.{◌≡◌, ℕ, zero, suc, ◌<◌, Bool, true, false, cond, IsTrue, List, [], ◌∷◌, length, map, get_or, Option, None, Some, refl, ap, sym, ◌∙◌, inl, inr}
+use Rattle.std.proofs.Common.{◌≡◌, ℕ, ◌<◌, Bool, true, false, cond, IsTrue, List, length, get_or, Option, None, Some, refl, ap, sym, ◌∙◌, inl, inr, arith}
+use Rattle.std.proofs.Math.ListN.{get_or-map}
 use Rattle.std.proofs.lemmas.Bool.{cases_lt, false≢true}
 use Rattle.std.proofs.lemmas.List.{get_or_default, get_or_past, length-map}
 use Rattle.std.proofs.lemmas.List.Folds.{Any-from_list_any}
+use Rattle.std.proofs.lemmas.List.Sums.{sum_by_more_le}
 use Rattle.std.proofs.lemmas.Option.{none-some}
 use Rattle.event_class.specs.declared.event.Event.{Event}
 use Rattle.event_class.specs.declared.pickable.Pickable.{Pickable}
 use Rattle.test_world.specs.World.{WorldState, is_enabled}
+use Rattle.walk_rules.specs.declared.seen.Seen.{Seen}
 use Rattle.walk_rules.specs.declared.seen.Seen.TheVariants.{Over, Held, Able}
-use Rattle.walk_rules.specs.Seen.{is_able, seen_of}
+use Rattle.walk_rules.specs.Seen.{able_threads, is_able, seen_of}
+use Rattle.walk_rules.proofs.Able.{length-able}
 use Rattle.run_rules.specs.Position.{Position, world_at, seen_word, seen_at}
 use Rattle.run_rules.specs.Setup.{Setup}
 use Rattle.run_rules.specs.Verdict.{deadlock}
 use Rattle.run_rules.proofs.Verdicts.{deadlock-none}
 
-get_or-map_all : {A B : Type 0} (f : A → B) (xs : List A) (k : ℕ) (d : A) → get_or (map f xs) k (f d) ≡ f (get_or xs k d)
-get_or-map_all f [] k d = refl
-get_or-map_all f (x ∷ xs) zero d = refl
-get_or-map_all f (x ∷ xs) (suc k) d = get_or-map_all f xs k d
-
 -- what is seen of a thread is that of its word
 pub seen-at : (setup : Setup) (x : Position) (thread : ℕ)
     → seen_of (seen_at setup x) thread ≡ seen_word (world_at setup x) setup.selection (get_or x.words thread None)
 unfolding seen_at
-seen-at setup x thread = get_or-map_all (seen_word (world_at setup x) setup.selection) x.words thread None
+seen-at setup x thread = get_or-map (seen_word (world_at setup x) setup.selection) x.words thread None
 
 -- an able thread has a word, whose event is enabled
 pub record HasWord (setup : Setup) (x : Position) (thread : ℕ) : Type 0 where
@@ -61,6 +60,12 @@ has-word setup x thread able =
 pub length-seen : (setup : Setup) (x : Position) → length (seen_at setup x) ≡ length x.words
 unfolding seen_at
 length-seen setup x = length-map x.words (seen_word (world_at setup x) setup.selection)
+
+-- where a thread is able there is one among the able threads
+pub able-some : (view : List Seen) (thread : ℕ) → thread < length view → is_able (seen_of view thread) ≡ true → 0 < length (able_threads view)
+able-some view thread within able =
+    let one : cond {A = ℕ} (is_able (seen_of view thread)) 1 0 ≡ 1 = ap (λ (b : Bool). cond {A = ℕ} b 1 0) able in
+    omega (arith, one, length-able view, sum_by_more_le (λ seen. cond (is_able seen) 1 0) view thread Over within)
 
 -- where there is no deadlock some thread is able
 pub record HasAble (setup : Setup) (x : Position) : Type 0 where

@@ -6,7 +6,7 @@ use Rattle.event_class.specs.Selection.{has}
 use Rattle.seed_draws.specs.declared.draw_fault.DrawFault.{DrawFault}
 use Rattle.seed_draws.specs.Answers.{Answering}
 use Rattle.run_rules.specs.declared.entry.Entry.{Entry}
-use Rattle.run_rules.specs.Made.{numbers_left}
+use Rattle.run_rules.specs.NumbersLeft.{numbers_left}
 use Rattle.run_rules.specs.Setup.{Setup}
 
 -- whether an entry ends the intention: its event is selected, and it isn't forced

@@ -4,10 +4,10 @@ use Rattle.walk_rules.specs.declared.picked.Picked.{Picked}
 use Rattle.walk_rules.specs.Granted.{granted_at}
 use Rattle.walk_rules.specs.Plain.{plain_bound, plain_thread}
 use Rattle.walk_rules.specs.State.{new_memory}
-use Rattle.run_rules.specs.Asked.{answers_at}
-use Rattle.run_rules.specs.Choices.{Choices}
+use Rattle.run_rules.specs.Bounds.{answers_at}
 use Rattle.run_rules.specs.Position.{Position, seen_at}
 use Rattle.run_rules.specs.Setup.{Setup}
+use Rattle.run_rules.specs.StrategyChoices.{Choices}
 
 -- the number of able threads
 abbrev pub plain_bounds_at : Setup → Position → List ℕ
@@ -18,4 +18,9 @@ unfoldable pub plain_choice : Setup → Position → Picked
 plain_choice setup x = granted_at (plain_thread (seen_at setup x)) (answers_at setup.other.answers (plain_bounds_at setup) x)
 
 abbrev pub plain_choices : Choices
-plain_choices = record { selected_at = λ setup x. []; other_at = plain_bounds_at; choice_at = plain_choice; memory_at = λ setup x. new_memory }
+plain_choices = record {
+  selected_at = λ setup x. [];
+  other_at = plain_bounds_at;
+  choice_at = plain_choice;
+  memory_at = λ setup x. new_memory;
+}

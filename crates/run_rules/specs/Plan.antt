@@ -5,8 +5,8 @@ use Rattle.seed_draws.specs.declared.draws.Draws as draws
 use Rattle.seed_draws.specs.Answers.{Source, source_of}
 use Rattle.walk_rules.specs.State.{new_walk}
 use Rattle.run_rules.specs.declared.plan.Plan.{Plan}
+use Rattle.run_rules.specs.Replies.{routines_say}
 use Rattle.run_rules.specs.Setup.{Setup, Script, IsValid}
-use Rattle.run_rules.specs.Told.{routines_say}
 
 -- the setup of a plan, with these for its two sources
 abbrev pub setup_with : {R S O : Type 0} → Source → Source → Plan R S O → Setup

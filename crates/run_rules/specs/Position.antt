@@ -9,8 +9,8 @@ use Rattle.walk_rules.specs.declared.seen.Seen.{Seen}
 use Rattle.walk_rules.specs.declared.seen.Seen.TheVariants.{Over, Held, Able}
 use Rattle.run_rules.specs.declared.entry.Entry.{Entry}
 use Rattle.run_rules.specs.Journal.{world_after}
+use Rattle.run_rules.specs.Replies.{announcement}
 use Rattle.run_rules.specs.Setup.{Setup, Script}
-use Rattle.run_rules.specs.Told.{said}
 
 -- the word of a thread is the event that it announces, or nothing where it has ended
 pub record Position : Type 0 where
@@ -32,7 +32,7 @@ earlier x = map (position_at x) (range_with_len 0 (length x.journal))
 
 -- the position of a script after a journal
 unfoldable pub position_of : Script → List Entry → Position
-position_of script journal = record { journal = journal; words = map (said script journal) (range_with_len 0 script.setup.threads) }
+position_of script journal = record { journal = journal; words = map (announcement script journal) (range_with_len 0 script.setup.threads) }
 
 -- the world at a position
 abbrev pub world_at : Setup → Position → WorldState

@@ -1,17 +1,18 @@
 -- The run of a plan.
 use Rattle.std.specs.Prelude.{◌≡◌, ℕ, ◌+◌, min, Bool, true, false, List, [], ◌∷◌, ◌++◌, map, Option, None, Some, IsSome, slice_get, if◌then◌else◌}
+use Rattle.surw_base.specs.Number.{greatest}
 use Rattle.event_class.specs.declared.event.Event.{Event}
 use Rattle.event_class.specs.declared.pickable.Pickable.{Pickable}
 use Rattle.test_world.specs.declared.monitor.Monitor.{Monitor}
-use Rattle.test_world.specs.World.{WorldState, new_world, max_word}
+use Rattle.test_world.specs.World.{WorldState, new_world}
 use Rattle.walk_rules.specs.declared.picked.Picked.TheVariants.{Grant}
 use Rattle.run_rules.specs.declared.entry.Entry.{Entry}
 use Rattle.run_rules.specs.declared.verdict.Verdict.{Verdict}
 use Rattle.run_rules.specs.declared.verdict.Verdict.TheVariants.{Draw}
-use Rattle.run_rules.specs.Choice.{choice, selected_asked, other_asked}
-use Rattle.run_rules.specs.Failed.{failed_at}
-use Rattle.run_rules.specs.Legal.{IsLegal}
+use Rattle.run_rules.specs.LegalJournal.{IsLegal}
+use Rattle.run_rules.specs.MonitorFailures.{failed_at}
 use Rattle.run_rules.specs.Position.{Position, earlier, position_at, position_of, world_at}
+use Rattle.run_rules.specs.RuleChoice.{choice, selected_asked, other_asked}
 use Rattle.run_rules.specs.Setup.{Setup, Script}
 use Rattle.run_rules.specs.Verdict.{verdict_at}
 
@@ -37,15 +38,19 @@ is_drawn (Some (Draw step fault)) = true
 is_drawn (Some _) = false
 
 -- the positions at which draws were asked for
-unfoldable pub drawn : Setup → Position → List Position
-drawn setup x = earlier x ++ (if is_drawn (verdict_at setup x) then x ∷ [] else [])
+unfoldable pub positions_of_draws : Setup → Position → List Position
+positions_of_draws setup x = earlier x ++ (if is_drawn (verdict_at setup x) then x ∷ [] else [])
+
+-- how many of the draws at some positions were bent
+abbrev pub bent_over : Setup → List Position → ℕ
+bent_over setup xs = setup.selected.bent (selected_asked setup xs) + setup.other.bent (other_asked setup xs)
 
 -- how many draws were bent by then; it stays at the greatest number
 abbrev pub bent_at : Setup → Position → ℕ
 bent_at setup x =
-    min (setup.selected.bent (selected_asked setup (drawn setup x)) + setup.other.bent (other_asked setup (drawn setup x))) max_word
+    min (bent_over setup (positions_of_draws setup x)) greatest
 
--- what a run is seen as
+-- what a run tells
 pub record Outcome : Type 0 where
   pub journal : List Entry
   pub world : WorldState
@@ -56,7 +61,7 @@ pub record Outcome : Type 0 where
   pub monitors : List Monitor
   pub failed : List (Option ℕ)
 
--- this is the run of a plan, with all that it tells
+-- this is the outcome of the run of a plan
 pub record IsRun (script : Script) (outcome : Outcome) : Type 0 where
   pub run : IsRunJournal script outcome.journal
   pub verdict : verdict_at script.setup (position_of script outcome.journal) ≡ Some outcome.verdict
@@ -71,6 +76,6 @@ pub record IsRun (script : Script) (outcome : Outcome) : Type 0 where
 abbrev pub OneRun : Script → Type 0
 OneRun script = (journal : List Entry) × IsRunJournal script journal × ((other : List Entry) → IsRunJournal script other → other ≡ journal)
 
--- what is told of the run of a plan is one
-abbrev pub OneTelling : Script → Type 0
-OneTelling script = (outcome other : Outcome) → IsRun script outcome → IsRun script other → other ≡ outcome
+-- the outcome of the run of a plan is one
+abbrev pub OneOutcome : Script → Type 0
+OneOutcome script = (outcome other : Outcome) → IsRun script outcome → IsRun script other → other ≡ outcome

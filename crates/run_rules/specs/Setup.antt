@@ -1,6 +1,6 @@
 -- What a run is made of.
 use Rattle.std.specs.Prelude.{◌≡◌, ℕ, ◌≤◌, List, [], ◌∷◌, All, length, sum, Option, IsTrue}
-use Rattle.surw_base.specs.declared.limits.TheConstants.{THREADS, STEPS}
+use Rattle.surw_base.specs.declared.limits.TheConstants.{MONITORS, STEPS, THREADS}
 use Rattle.event_class.specs.declared.event.Event.{Event}
 use Rattle.event_class.specs.declared.pickable.Pickable.{Pickable}
 use Rattle.event_class.specs.declared.pickable.Pickable.TheVariants.{Every}
@@ -42,6 +42,6 @@ pub record IsValid (setup : Setup) : Type 0 where
   pub few : sum setup.counts ≤ STEPS
   pub some : 1 ≤ setup.max_steps
   pub most : setup.max_steps ≤ STEPS
-  pub monitors : length setup.monitors ≤ 16
+  pub monitors : length setup.monitors ≤ MONITORS
   pub watched : All (CanWatch setup.size) setup.monitors
   pub every : SelectsAllUnder setup.rule setup.selection

@@ -6,12 +6,12 @@ use Rattle.walk_rules.specs.declared.picked.Picked.{Picked}
 use Rattle.walk_rules.specs.State.{Memory, new_memory}
 use Rattle.walk_rules.specs.Surw.{candidate_bounds, surw_picked}
 use Rattle.run_rules.specs.declared.entry.Entry.{Entry}
-use Rattle.run_rules.specs.Asked.{answers_at}
-use Rattle.run_rules.specs.Choices.{Choices}
+use Rattle.run_rules.specs.Bounds.{answers_at}
 use Rattle.run_rules.specs.Intention.{ends_intention, intended_after}
-use Rattle.run_rules.specs.Left.{left_at}
+use Rattle.run_rules.specs.NumbersLeft.{left_at}
 use Rattle.run_rules.specs.Position.{Position, seen_at}
 use Rattle.run_rules.specs.Setup.{Setup}
+use Rattle.run_rules.specs.StrategyChoices.{Choices}
 
 -- an intention is due after some entries: at the start, and after an entry that ended one
 unfoldable pub is_due_after : List Pickable → Bool → List Entry → Bool
@@ -31,7 +31,8 @@ surw_other_at setup x = candidate_bounds (seen_at setup x) (intended_after setup
 
 -- the other source answers the bounds at all positions up to this one; its answer here picks among the candidates
 unfoldable pub surw_choice : Setup → Position → Picked
-surw_choice setup x = surw_picked (seen_at setup x) (intended_after setup x.journal) (answers_at setup.other.answers (surw_other_at setup) x)
+surw_choice setup x =
+    surw_picked (seen_at setup x) (intended_after setup x.journal) (answers_at setup.other.answers (surw_other_at setup) x)
 
 abbrev pub intended_or_none : Result (Option ℕ) DrawFault → Option ℕ
 intended_or_none (Ok intended) = intended
@@ -39,7 +40,14 @@ intended_or_none (Err fault) = None
 
 -- what is intended when the position is reached: nothing where an intention is due
 abbrev pub surw_memory_at : Setup → Position → Memory
-surw_memory_at setup x = record new_memory { intended = if is_fresh setup.selection x.journal then None else intended_or_none (intended_after setup x.journal) }
+surw_memory_at setup x = record new_memory {
+  intended = if is_fresh setup.selection x.journal then None else intended_or_none (intended_after setup x.journal);
+}
 
 abbrev pub surw_choices : Choices
-surw_choices = record { selected_at = surw_selected_at; other_at = surw_other_at; choice_at = surw_choice; memory_at = surw_memory_at }
+surw_choices = record {
+  selected_at = surw_selected_at;
+  other_at = surw_other_at;
+  choice_at = surw_choice;
+  memory_at = surw_memory_at;
+}

@@ -11,9 +11,9 @@ use Rattle.walk_rules.specs.Seen.{is_able}
 use Rattle.walk_rules.specs.Strategies.{counts_down}
 use Rattle.run_rules.specs.declared.verdict.Verdict.{Verdict}
 use Rattle.run_rules.specs.declared.verdict.Verdict.TheVariants.{Ended, Deadlock, WrongCount, Draw, StepLimit}
-use Rattle.run_rules.specs.Choice.{choice}
-use Rattle.run_rules.specs.Made.{events_made}
+use Rattle.run_rules.specs.EventsMade.{events_made}
 use Rattle.run_rules.specs.Position.{Position, seen_at}
+use Rattle.run_rules.specs.RuleChoice.{choice}
 use Rattle.run_rules.specs.Setup.{Setup}
 
 -- whether a thread has no word and made fewer events than counted, or announces a selected event and made no fewer
@@ -21,23 +21,27 @@ abbrev pub is_miscounted : List Pickable → ℕ → ℕ → Option Event → Bo
 is_miscounted selection counted made None = ltb made counted
 is_miscounted selection counted made (Some event) = has selection event && nat_le counted made
 
+abbrev pub is_miscounted_at : Setup → Position → ℕ → Bool
+is_miscounted_at setup x thread =
+    is_miscounted setup.selection (slice_index setup.counts thread) (events_made setup.selection x.journal thread)
+    (slice_index_or x.words thread None)
+
 -- the least such thread
 abbrev pub first_miscounted : Setup → Position → Option ℕ
-first_miscounted setup x =
-    find (λ thread. is_miscounted setup.selection (slice_index setup.counts thread) (events_made setup.selection x.journal thread) (slice_index_or x.words thread None))
-    (range_with_len 0 (length x.words))
+first_miscounted setup x = find (is_miscounted_at setup x) (range_with_len 0 (length x.words))
+
+-- the wrong count of a thread
+abbrev pub miscount : Setup → Position → ℕ → Verdict
+miscount setup x thread =
+    WrongCount (length x.journal) thread (slice_index setup.counts thread) (events_made setup.selection x.journal thread)
 
 -- a wrong count, where the rule takes selected events from the numbers left
 abbrev pub wrong_count : Setup → Position → Option Verdict
-wrong_count setup x =
-    if counts_down setup.rule
-    then option_map (λ thread. WrongCount (length x.journal) thread (slice_index setup.counts thread) (events_made setup.selection x.journal thread))
-    (first_miscounted setup x)
-    else None
+wrong_count setup x = if counts_down setup.rule then option_map (miscount setup x) (first_miscounted setup x) else None
 
--- no thread has a word
-abbrev pub ended : Position → Option Verdict
-ended x = if list_any is_some x.words then None else Some Ended
+-- no thread has a word: each has ended
+abbrev pub end_of_threads : Position → Option Verdict
+end_of_threads x = if list_any is_some x.words then None else Some Ended
 
 -- the journal is as long as it may be
 abbrev pub step_limit : Setup → Position → Option Verdict
@@ -48,9 +52,9 @@ abbrev pub deadlock : Setup → Position → Option Verdict
 deadlock setup x = if list_any is_able (seen_at setup x) then None else Some (Deadlock (length x.journal))
 
 -- the choice is a refusal
-abbrev pub refused : ℕ → Picked → Option Verdict
-refused step (Grant thread forced) = None
-refused step (Stop fault) = Some (Draw step fault)
+abbrev pub refusal : ℕ → Picked → Option Verdict
+refusal step (Grant thread forced) = None
+refusal step (Stop fault) = Some (Draw step fault)
 
 -- the first of some verdicts
 abbrev pub first_of : List (Option Verdict) → Option Verdict
@@ -63,8 +67,8 @@ unfoldable pub verdict_at : Setup → Position → Option Verdict
 verdict_at setup x =
     first_of
     (wrong_count setup x
-    ∷ ended x
+    ∷ end_of_threads x
     ∷ step_limit setup x
     ∷ deadlock setup x
-    ∷ refused (length x.journal) (choice setup x)
+    ∷ refusal (length x.journal) (choice setup x)
     ∷ [])

@@ -1,7 +1,7 @@
 //! What holds of every plan. A law does nothing when it is called: its contract is the law.
 
 ghost use Rattle.run_rules.specs.Plan.{script_of, IsValidPlan};
-ghost use Rattle.run_rules.specs.Run.{OneRun, OneTelling};
+ghost use Rattle.run_rules.specs.Run.{OneRun, OneOutcome};
 ghost use Rattle.run_rules.specs.Setup.{Script};
 
 use crate::Plan;
@@ -16,8 +16,8 @@ pub fn one_run<R: Routine, S: Draws, O: Draws>(plan: &Plan<R, S, O>)
     let _ = plan;
 }
 
-/// What is told of a run is one too, of any script: its world, its verdict, the last words, how many draws were
-/// bent and where each monitor failed.
-pub fn one_telling()
-    ensures { (script : Script) → OneTelling script }
+/// The outcome of a run is one too, of any script: its world, its verdict, the last words, how many draws were bent
+/// and where each monitor failed.
+pub fn one_outcome()
+    ensures { (script : Script) → OneOutcome script }
 {}

@@ -6,7 +6,7 @@ use walk_rules::Walk;
 
 /// What a run is made of. It can be run where it is valid: the world is within the limits; there are at most
 /// `THREADS` routines; the walk is new and has a count for each routine; `max_steps` is from 1 to `STEPS`; there
-/// are at most 16 monitors, and the world has each cell that one watches; and under URW the selection is every
+/// are at most `MONITORS` monitors, and the world has each cell that one watches; and under URW the selection is every
 /// event.
 #[derive(Drop)]
 pub struct Plan<R: Routine, S: Draws, O: Draws> {

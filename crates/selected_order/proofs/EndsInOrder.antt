@@ -15,9 +15,9 @@ use Rattle.walk_rules.specs.declared.rule.Rule.{Rule}
 use Rattle.walk_rules.specs.declared.rule.Rule.TheVariants.{Surw}
 use Rattle.walk_rules.specs.Seen.{is_able, seen_of}
 use Rattle.run_rules.specs.declared.entry.Entry.{Entry}
-use Rattle.run_rules.specs.Choice.{choice, choices}
-use Rattle.run_rules.specs.Made.{selected_order}
+use Rattle.run_rules.specs.EventsMade.{selected_order}
 use Rattle.run_rules.specs.Position.{Position, words_before, position_at, seen_at}
+use Rattle.run_rules.specs.RuleChoice.{choice, choices}
 use Rattle.run_rules.specs.Run.{GoesOn}
 use Rattle.run_rules.specs.Setup.{Setup}
 use Rattle.run_rules.specs.SurwChoice.{surw_choice}
@@ -25,7 +25,7 @@ use Rattle.run_rules.proofs.Prefixes.{IsNext, next-at}
 use Rattle.run_rules.proofs.Words.{has-word}
 use Rattle.selected_order.specs.SelectedOrder.{IsUnforced, IsInDrawnOrder, EndsInOrder}
 use Rattle.selected_order.proofs.InOrder.{IsInOrder, left_of, in-order-none, in-order-more}
-use Rattle.selected_order.proofs.NoneLeft.{ended-parts, none-left}
+use Rattle.selected_order.proofs.NothingLeft.{ended-parts, none-left}
 use Rattle.selected_order.proofs.UnforcedGrants.{surw-narrow}
 
 -- before an entry the word of its thread is its event

@@ -18,27 +18,27 @@ use Rattle.walk_rules.specs.Seen.{is_able, seen_of}
 use Rattle.run_rules.specs.declared.entry.Entry.{Entry}
 use Rattle.run_rules.specs.declared.verdict.Verdict.{Verdict}
 use Rattle.run_rules.specs.declared.verdict.Verdict.TheVariants.{Ended, Deadlock, StepLimit}
-use Rattle.run_rules.specs.Choice.{choice}
-use Rattle.run_rules.specs.Legal.{IsLegal}
+use Rattle.run_rules.specs.LegalJournal.{IsLegal}
 use Rattle.run_rules.specs.Position.{Position, position_of, seen_at}
+use Rattle.run_rules.specs.Replies.{announcement}
+use Rattle.run_rules.specs.RuleChoice.{choice}
 use Rattle.run_rules.specs.Setup.{Setup, Script}
-use Rattle.run_rules.specs.Told.{said}
-use Rattle.run_rules.specs.Verdict.{verdict_at, wrong_count, ended, step_limit, deadlock, refused, first_of}
+use Rattle.run_rules.specs.Verdict.{verdict_at, wrong_count, end_of_threads, step_limit, deadlock, refusal, first_of, miscount}
 use Rattle.run_rules.proofs.Prefixes.{AtEach, IsNext, next-at, each-prefix}
-use Rattle.run_rules.proofs.Goings.{GoesOnAfter, going-prefixes}
-use Rattle.run_rules.proofs.Scripts.{legal-prefix, length-words}
+use Rattle.run_rules.proofs.RunPrefixes.{GoesOnAfter, going-prefixes}
+use Rattle.run_rules.proofs.Scripts.{legal-prefix, length-words, word-announcement}
 use Rattle.run_rules.proofs.Verdicts.{grant-parts, none-verdict, verdict-none}
 use Rattle.run_rules.proofs.Words.{some-able, has-word, length-seen}
 use Rattle.selected_order.specs.SurwScript.{HasEnded, IsTame, EndsUnforced}
-use Rattle.selected_order.proofs.Completions.{HasSaid, some-said, step_of, step-legal}
+use Rattle.selected_order.proofs.Announcements.{seen-able}
+use Rattle.selected_order.proofs.Completions.{HasAnnouncement, some-announcement, step_of, step-legal}
 use Rattle.selected_order.proofs.EndsInOrder.{choice-is, unforced-able}
 use Rattle.selected_order.proofs.FreeChoice.{IsFreeChoice, free-choice, other-answers}
 use Rattle.selected_order.proofs.InOrder.{IsInOrder, in-order-none, in-order-more}
 use Rattle.selected_order.proofs.NarrowCandidates.{has-narrow}
 use Rattle.selected_order.proofs.NoDeadlock.{no-deadlock}
-use Rattle.selected_order.proofs.NoneLeft.{wrong_of, wrong-is}
-use Rattle.selected_order.proofs.RightCounts.{none-miscounted}
-use Rattle.selected_order.proofs.SaidWords.{seen-able, word-of}
+use Rattle.selected_order.proofs.NothingLeft.{wrong-is}
+use Rattle.selected_order.proofs.TrueCounts.{none-miscounted}
 
 -- what is asked of a script and its sources
 pub record IsDrawable (script : Script) : Type 0 where
@@ -51,9 +51,9 @@ pub record IsDrawable (script : Script) : Type 0 where
 
 -- ---- where a thread announces an event there is no deadlock, and the other way round
 
-said-able : (script : Script) (journal : List Entry) → IsTame script → IsLegal script journal → HasSaid (said script journal) script.setup.threads
+announcing-able : (script : Script) (journal : List Entry) → IsTame script → IsLegal script journal → HasAnnouncement (announcement script journal) script.setup.threads
     → deadlock script.setup (position_of script journal) ≡ None
-said-able script journal tame legal going =
+announcing-able script journal tame legal going =
     let x : Position = position_of script journal in
     let view : List Seen = seen_at script.setup x in
     let able : is_able (seen_of view going.thread) ≡ true =
@@ -62,26 +62,26 @@ said-able script journal tame legal going =
     list_any_at is_able view going.thread Over (omega (arith, going.within, length-seen script.setup x, length-words script journal)) able in
     cond-true (list_any is_able view) None (Some (Deadlock (length x.journal))) some
 
-able-said : (script : Script) (journal : List Entry) → deadlock script.setup (position_of script journal) ≡ None
-    → HasSaid (said script journal) script.setup.threads
-able-said script journal going =
+able-announcing : (script : Script) (journal : List Entry) → deadlock script.setup (position_of script journal) ≡ None
+    → HasAnnouncement (announcement script journal) script.setup.threads
+able-announcing script journal going =
     let x : Position = position_of script journal in
     let able = some-able script.setup x going in
     let word = has-word script.setup x able.thread able.able in
     let within : able.thread < script.setup.threads = omega (arith, word.within, length-words script journal) in
-    record { thread = able.thread; event = word.event; within = within; is = sym (word-of script journal able.thread within) ∙ word.word }
+    record { thread = able.thread; event = word.event; within = within; is = sym (word-announcement script journal able.thread within) ∙ word.word }
 
 -- ---- one prefix after another
 
 -- the choice after a prefix in order isn't forced
 pub free-after : (script : Script) (journal : List Entry) → IsDrawable script → IsLegal script journal → AtEach (GoesOnAfter script) journal
-    → IsInOrder script.setup journal → HasSaid (said script journal) script.setup.threads → IsFreeChoice script.setup (position_of script journal)
+    → IsInOrder script.setup journal → HasAnnouncement (announcement script journal) script.setup.threads → IsFreeChoice script.setup (position_of script journal)
 unfolding position_of
 free-after script journal is legal prefixes order going =
     let x : Position = position_of script journal in
     free-choice script.setup x
     (has-narrow script journal is.tame is.selected is.all legal order going)
-    (other-answers script.setup x is.never (no-deadlock script journal legal prefixes) (said-able script journal is.tame legal going))
+    (other-answers script.setup x is.never (no-deadlock script journal legal prefixes) (announcing-able script journal is.tame legal going))
 
 -- a prefix in order, of which no entry is forced
 record IsFreePrefix (script : Script) (journal : List Entry) (k : ℕ) : Type 0 where
@@ -98,14 +98,14 @@ prefix-next script journal k is legal prefixes lt before =
     let next : IsNext journal k = next-at journal k lt in
     let entry : Entry = next.item in
     let goes = prefixes k entry next.there in
-    let going = able-said script prefix (verdict-none setup x goes.going).3 in
+    let going = able-announcing script prefix (verdict-none setup x goes.going).3 in
     let earlier = each-prefix (GoesOnAfter script) journal k prefixes in
     let free : IsFreeChoice setup x = free-after script prefix is (legal-prefix script journal k legal) earlier before.order going in
     let chosen = sym (choice-is setup x is.rule) ∙ goes.chosen in
     let grant = grant-parts entry.thread free.thread entry.forced false (sym chosen ∙ free.chosen) in
     let able = unforced-able setup x entry.thread is.other (chosen ∙ ap (Grant entry.thread) grant.1) in
     let within : entry.thread < setup.threads = omega (arith, (has-word setup x entry.thread able).within, length-words script prefix) in
-    let word : get_or x.words entry.thread None ≡ Some entry.event = word-of script prefix entry.thread within ∙ (legal k entry next.there).announced in
+    let word : get_or x.words entry.thread None ≡ Some entry.event = word-announcement script prefix entry.thread within ∙ (legal k entry next.there).announced in
     let one : k + 1 ≡ suc k = omega arith in
     record {
       order = subst (IsInOrder setup) (sym next.cut ∙ ap (λ n. take n journal) one)
@@ -133,7 +133,7 @@ none-wrong : (script : Script) (journal : List Entry) → script.setup.rule ≡ 
 none-wrong script journal rule tame legal =
     let setup : Setup = script.setup in
     let x : Position = position_of script journal in
-    wrong-is setup x rule ∙ ap (option_map (wrong_of setup x)) (none-miscounted script journal tame legal)
+    wrong-is setup x rule ∙ ap (option_map (miscount setup x)) (none-miscounted script journal tame legal)
 
 -- where each thread has ended
 pub verdict-ended : (script : Script) (journal : List Entry) → script.setup.rule ≡ Surw → IsTame script → IsLegal script journal → HasEnded script journal
@@ -142,17 +142,17 @@ unfolding verdict_at
 verdict-ended script journal rule tame legal none =
     let setup : Setup = script.setup in
     let x : Position = position_of script journal in
-    let later : List (Option Verdict) = step_limit setup x ∷ deadlock setup x ∷ refused (length x.journal) (choice setup x) ∷ [] in
+    let later : List (Option Verdict) = step_limit setup x ∷ deadlock setup x ∷ refusal (length x.journal) (choice setup x) ∷ [] in
     let words : list_any is_some x.words ≡ false =
     list_any_none is_some x.words (All-from_get_or (λ word. is_some word ≡ false) x.words None (λ k lt.
     let below : k < setup.threads = omega (arith, lt, length-words script journal) in
-    ap is_some (word-of script journal k below ∙ none k below))) in
-    ap (λ v. first_of (v ∷ ended x ∷ later)) (none-wrong script journal rule tame legal)
+    ap is_some (word-announcement script journal k below ∙ none k below))) in
+    ap (λ v. first_of (v ∷ end_of_threads x ∷ later)) (none-wrong script journal rule tame legal)
     ∙ ap (λ v. first_of (v ∷ later)) (cond-false (list_any is_some x.words) None (Some Ended) words)
 
 -- where one announces an event
 pub verdict-going : (script : Script) (journal : List Entry) → script.setup.rule ≡ Surw → IsTame script → IsLegal script journal
-    → HasSaid (said script journal) script.setup.threads → IsFreeChoice script.setup (position_of script journal)
+    → HasAnnouncement (announcement script journal) script.setup.threads → IsFreeChoice script.setup (position_of script journal)
     → verdict_at script.setup (position_of script journal) ≡ None
 unfolding position_of
 verdict-going script journal rule tame legal going free =
@@ -164,12 +164,12 @@ verdict-going script journal rule tame legal going free =
     omega (arith, full, length_push journal entry, tame.short (journal ++ entry ∷ []) more) in
     let word : list_any is_some x.words ≡ true =
     list_any_at is_some x.words going.thread None (omega (arith, going.within, length-words script journal))
-    (ap is_some (word-of script journal going.thread going.within ∙ going.is)) in
+    (ap is_some (word-announcement script journal going.thread going.within ∙ going.is)) in
     none-verdict setup x (none-wrong script journal rule tame legal)
     (cond-true (list_any is_some x.words) None (Some Ended) word)
     (cond-false (length journal == setup.max_steps) (Some (StepLimit (length journal))) None (ne_eqb (length journal) setup.max_steps shorter))
-    (said-able script journal tame legal going)
-    (ap (refused (length journal)) (choice-is setup x rule ∙ free.chosen))
+    (announcing-able script journal tame legal going)
+    (ap (refusal (length journal)) (choice-is setup x rule ∙ free.chosen))
 
 pub ends-unforced : EndsUnforced
 ends-unforced script journal rule tame selected other all never run =
@@ -178,7 +178,7 @@ ends-unforced script journal rule tame selected other all never run =
     let prefixes : AtEach (GoesOnAfter script) journal = going-prefixes script journal legal run.going in
     let prefix : IsFreePrefix script journal (length journal) = prefix-at script journal (length journal) is legal prefixes (omega arith) in
     let order : IsInOrder script.setup journal = subst (IsInOrder script.setup) (take-length journal) prefix.order in (
-      elim (some-said (said script journal) script.setup.threads) [
+      elim (some-announcement (announcement script journal) script.setup.threads) [
         | inl none ↦ verdict-ended script journal rule tame legal none
         | inr going ↦
             let none = verdict-going script journal rule tame legal going (free-after script journal is legal prefixes order going) in

@@ -13,12 +13,12 @@ use Rattle.seed_draws.specs.TapeSource.{strict_tape}
 use Rattle.seed_draws.proofs.Tapes.{loose-never, loose-source, strict-drawn, strict-source}
 use Rattle.walk_rules.specs.declared.rule.Rule.TheVariants.{Surw}
 use Rattle.run_rules.specs.declared.entry.Entry.{Entry}
-use Rattle.run_rules.specs.Legal.{IsLegal}
-use Rattle.run_rules.specs.Made.{selected_order}
+use Rattle.run_rules.specs.EventsMade.{selected_order}
+use Rattle.run_rules.specs.LegalJournal.{IsLegal}
 use Rattle.run_rules.specs.Position.{position_of}
 use Rattle.run_rules.specs.Run.{IsRunJournal}
 use Rattle.run_rules.specs.Setup.{Script, IsValid}
-use Rattle.run_rules.proofs.Exists.{run-exists}
+use Rattle.run_rules.proofs.Existence.{run-exists}
 use Rattle.run_rules.proofs.Scripts.{length-words}
 use Rattle.selected_order.specs.EveryOrder.{with_tapes, EveryOrderOf, OrdersComeEquallyOftenOf}
 use Rattle.selected_order.specs.SelectedOrder.{IsInDrawnOrder}

@@ -2,7 +2,7 @@
 use Rattle.std.proofs.Common.{◌≡◌, ℕ, suc, ◌+◌, ◌&&◌, ◌<◌, not, Bool, true, false, cond, List, [], ◌∷◌, ◌++◌, length, map, sum, take, get_or, None, Some, Ok, refl, ap, sym, subst, ◌∙◌, inl, inr, arith}
 use Rattle.std.proofs.Math.Seq.{take-length}
 use Rattle.std.proofs.lemmas.Bool.{cases_Bool}
-use Rattle.std.proofs.lemmas.List.{append_assoc, append-nil, ext_get_or, length-map, map-append, take_more, length_push, get_or_push}
+use Rattle.std.proofs.lemmas.List.{append_assoc, append-nil, length-map, map-append, take_more, length_push, get_or_push}
 use Rattle.std.proofs.lemmas.List.Elements.{filter-append}
 use Rattle.std.specs.List.{filter}
 use Rattle.draw_split.specs.Bag.{pick, less_one}
@@ -15,13 +15,14 @@ use Rattle.event_class.specs.declared.pickable.Pickable.{Pickable}
 use Rattle.event_class.specs.Selection.{has}
 use Rattle.walk_rules.specs.declared.picked.Picked.TheVariants.{Grant}
 use Rattle.run_rules.specs.declared.entry.Entry.{Entry}
+use Rattle.run_rules.specs.EventsMade.{selected_order}
 use Rattle.run_rules.specs.Intention.{ends_intention, ending_prefixes, intention_lefts, intended_by, intended_after}
-use Rattle.run_rules.specs.Made.{events_made, numbers_left, selected_order}
+use Rattle.run_rules.specs.NumbersLeft.{numbers_left}
 use Rattle.run_rules.specs.Position.{Position}
 use Rattle.run_rules.specs.Setup.{Setup}
 use Rattle.run_rules.specs.SurwChoice.{surw_choice}
 use Rattle.run_rules.proofs.Intentions.{lefts-kept, lefts-more, IsIntendedBy, intended-draw}
-use Rattle.run_rules.proofs.Numbers.{left-more, left-kept, left-any, length-left}
+use Rattle.run_rules.proofs.Numbers.{left-kept, left-more, left-none}
 use Rattle.selected_order.proofs.UnforcedGrants.{surw-intended}
 
 -- the numbers left after a journal
@@ -41,12 +42,6 @@ pub record IsInOrder (setup : Setup) (journal : List Entry) : Type 0 where
   pub good : (rest : List ℕ) → AreGood (left_of setup journal) rest → AreGood setup.counts (draws ++ rest)
 
 -- ---- at the start
-
-pub left-none : (selection : List Pickable) (counts : List ℕ) → numbers_left selection counts [] ≡ counts
-unfolding events_made
-left-none selection counts =
-    ext_get_or 0 (numbers_left selection counts []) counts (length-left selection counts [])
-    (λ thread below. left-any selection counts [] thread ∙ omega arith)
 
 pub in-order-none : (setup : Setup) → setup.selected.answers [] ≡ Ok [] → IsInOrder setup []
 unfolding intention_lefts ending_prefixes selected_order

@@ -1,4 +1,4 @@
--- The selected order theorem of a run as it is told, and of plans.
+-- The selected order theorem of the outcome of a run.
 use Rattle.std.proofs.Common.{◌≡◌, length, Some, ap, sym, ◌∙◌}
 use Rattle.std.proofs.lemmas.Option.{same_Some}
 use Rattle.seed_draws.specs.Answers.{IsSource}

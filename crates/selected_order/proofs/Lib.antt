@@ -1,6 +1,8 @@
-pub mod CandidatesAsked
+pub mod Announcements
+pub mod CandidateBounds
 pub mod ChoiceValues
 pub mod Completions
+pub mod CountedAnnouncements
 pub mod EndsInOrder
 pub mod EndsUnforced
 pub mod EveryOrder
@@ -9,13 +11,11 @@ pub mod InOrder
 pub mod KeepsOrder
 pub mod NarrowCandidates
 pub mod NoDeadlock
-pub mod NoneLeft
-pub mod RightCounts
-pub mod SaidWords
+pub mod NothingLeft
 pub mod SameBounds
 pub mod SameChoice
-pub mod SameLeft
-pub mod SaysSoMany
+pub mod SameNumbers
 pub mod SurwIsUrw
+pub mod TrueCounts
 pub mod TwoThreads
 pub mod UnforcedGrants

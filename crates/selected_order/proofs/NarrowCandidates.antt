@@ -19,18 +19,18 @@ use Rattle.walk_rules.specs.Seen.{is_able, is_chosen, seen_of}
 use Rattle.walk_rules.specs.Surw.{is_intended, is_narrow, narrow}
 use Rattle.run_rules.specs.declared.entry.Entry.{Entry}
 use Rattle.run_rules.specs.Intention.{picked_from, intended_by, intended_after}
-use Rattle.run_rules.specs.Legal.{IsLegal}
+use Rattle.run_rules.specs.LegalJournal.{IsLegal}
 use Rattle.run_rules.specs.Position.{Position, position_of, seen_at}
+use Rattle.run_rules.specs.Replies.{announcement}
 use Rattle.run_rules.specs.Setup.{Setup, Script}
-use Rattle.run_rules.specs.Told.{said}
 use Rattle.run_rules.proofs.Intentions.{intended-pushed}
 use Rattle.run_rules.proofs.Numbers.{left-any, length-left}
 use Rattle.run_rules.proofs.Scripts.{length-words}
 use Rattle.run_rules.proofs.Words.{length-seen}
 use Rattle.selected_order.specs.SurwScript.{IsNeverBlocked, IsTame}
-use Rattle.selected_order.proofs.Completions.{HasSaid, made-counted, made-fewer}
+use Rattle.selected_order.proofs.Announcements.{left-announces, seen-able}
+use Rattle.selected_order.proofs.Completions.{HasAnnouncement, made-counted, made-fewer}
 use Rattle.selected_order.proofs.InOrder.{IsInOrder, left_of, falling-more}
-use Rattle.selected_order.proofs.SaidWords.{left-said, seen-able}
 
 -- where a thread is a narrow candidate there is one among them
 narrow-some : (intended : Option ℕ) (view : List Seen) (thread : ℕ) → thread < length view → is_narrow intended view thread ≡ true
@@ -50,7 +50,7 @@ able-narrow intended seen thread chosen is or = ap (λ (s : Seen). is_able s && 
 
 -- a thread that announces an event is one, where the event isn't selected or the thread is intended
 pub word-narrow : (script : Script) (journal : List Entry) (intended : Option ℕ) (thread : ℕ) (event : Event) → IsNeverBlocked script
-    → IsLegal script journal → thread < script.setup.threads → said script journal thread ≡ Some event
+    → IsLegal script journal → thread < script.setup.threads → announcement script journal thread ≡ Some event
     → (not (has script.setup.selection event) || is_intended intended thread) ≡ true
     → 0 < length (narrow intended (seen_at script.setup (position_of script journal)))
 word-narrow script journal intended thread event free legal within announced or =
@@ -62,7 +62,7 @@ word-narrow script journal intended thread event free legal within announced or 
 
 -- so an intended thread that announces one is
 pub intended-narrow : (script : Script) (journal : List Entry) (thread : ℕ) (event : Event) → IsNeverBlocked script → IsLegal script journal
-    → thread < script.setup.threads → said script journal thread ≡ Some event
+    → thread < script.setup.threads → announcement script journal thread ≡ Some event
     → 0 < length (narrow (Some thread) (seen_at script.setup (position_of script journal)))
 intended-narrow script journal thread event free legal within announced =
     word-narrow script journal (Some thread) thread event free legal within announced
@@ -77,7 +77,7 @@ pub record HasNarrow (setup : Setup) (x : Position) : Type 0 where
 -- ---- where nothing is left, a thread with a word announces an event that isn't selected
 
 unselected : (script : Script) (journal : List Entry) (thread : ℕ) (event : Event) → IsTame script → IsLegal script journal
-    → thread < script.setup.threads → said script journal thread ≡ Some event → sum (left_of script.setup journal) ≡ 0
+    → thread < script.setup.threads → announcement script journal thread ≡ Some event → sum (left_of script.setup journal) ≡ 0
     → has script.setup.selection event ≡ false
 unselected script journal thread event tame legal within announced none = elim (cases_Bool (has script.setup.selection event)) [
   | inl selected ↦
@@ -94,7 +94,7 @@ unselected script journal thread event tame legal within announced none = elim (
 ]
 
 narrow-none : (script : Script) (journal : List Entry) → IsTame script → IsLegal script journal → IsInOrder script.setup journal
-    → HasSaid (said script journal) script.setup.threads → sum (left_of script.setup journal) ≡ 0
+    → HasAnnouncement (announcement script journal) script.setup.threads → sum (left_of script.setup journal) ≡ 0
     → HasNarrow script.setup (position_of script journal)
 unfolding position_of intended_after
 narrow-none script journal tame legal order going none =
@@ -158,13 +158,13 @@ narrow-left script journal tame source all legal order some =
     let more = drawn.some in
     let within : thread < setup.threads =
     omega (arith, listed left thread 0 (omega (arith, more)), length-left setup.selection setup.counts journal, tame.counted) in
-    let word = left-said (get_or left thread 0) (said script journal thread) drawn.some (λ ended.
+    let word = left-announces (get_or left thread 0) (announcement script journal thread) drawn.some (λ ended.
     omega (arith, left-any setup.selection setup.counts journal thread, made-counted script journal thread tame legal within ended)) in
     record { intended = Some thread; is = drawn.is; some = intended-narrow script journal thread word.event tame.free legal within word.is }
 
 pub has-narrow : (script : Script) (journal : List Entry) → IsTame script → IsSource script.setup.selected.answers
     → IsOk (script.setup.selected.answers (falling (sum script.setup.counts))) → IsLegal script journal → IsInOrder script.setup journal
-    → HasSaid (said script journal) script.setup.threads → HasNarrow script.setup (position_of script journal)
+    → HasAnnouncement (announcement script journal) script.setup.threads → HasNarrow script.setup (position_of script journal)
 has-narrow script journal tame source all legal order going = elim (cases_eq (sum (left_of script.setup journal)) 0) [
   | inl none ↦ narrow-none script journal tame legal order going none
   | inr some ↦ narrow-left script journal tame source all legal order (omega (arith, some))

@@ -1,12 +1,12 @@
 -- No position of a run before its end is a deadlock.
 use Rattle.std.proofs.Common.{◌≡◌, ℕ, ◌<◌, List, length, take, None, subst, sym, arith}
 use Rattle.run_rules.specs.declared.entry.Entry.{Entry}
-use Rattle.run_rules.specs.Legal.{IsLegal}
+use Rattle.run_rules.specs.LegalJournal.{IsLegal}
 use Rattle.run_rules.specs.Position.{position_at, position_of}
 use Rattle.run_rules.specs.Setup.{Script}
 use Rattle.run_rules.specs.Verdict.{deadlock}
 use Rattle.run_rules.proofs.Prefixes.{AtEach, IsNext, next-at}
-use Rattle.run_rules.proofs.Goings.{GoesOnAfter}
+use Rattle.run_rules.proofs.RunPrefixes.{GoesOnAfter}
 use Rattle.run_rules.proofs.Scripts.{script-again}
 use Rattle.run_rules.proofs.Verdicts.{verdict-none}
 

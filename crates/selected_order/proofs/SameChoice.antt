@@ -15,28 +15,28 @@ use Rattle.walk_rules.specs.declared.picked.Picked.TheVariants.{Grant, Stop}
 use Rattle.walk_rules.specs.Granted.{granted_at}
 use Rattle.walk_rules.specs.Surw.{narrow, surw_picked}
 use Rattle.run_rules.specs.declared.entry.Entry.{Entry}
-use Rattle.run_rules.specs.Asked.{answers_at, asked_over}
+use Rattle.run_rules.specs.Bounds.{answers_at, bounds_over}
+use Rattle.run_rules.specs.EventsMade.{events_made}
 use Rattle.run_rules.specs.Intention.{picked_from, intended_by, intended_after}
-use Rattle.run_rules.specs.Left.{left_at}
-use Rattle.run_rules.specs.Legal.{IsLegal}
-use Rattle.run_rules.specs.Made.{events_made}
+use Rattle.run_rules.specs.LegalJournal.{IsLegal}
+use Rattle.run_rules.specs.NumbersLeft.{left_at}
 use Rattle.run_rules.specs.Position.{Position, earlier, position_of, seen_at}
+use Rattle.run_rules.specs.Replies.{announcement}
 use Rattle.run_rules.specs.Setup.{Setup, Script}
 use Rattle.run_rules.specs.SurwChoice.{surw_choice, surw_other_at}
-use Rattle.run_rules.specs.Told.{said}
 use Rattle.run_rules.specs.UrwChoice.{urw_bounds_at, urw_choice}
 use Rattle.run_rules.specs.Verdict.{is_miscounted, first_miscounted, deadlock}
-use Rattle.run_rules.proofs.Choices.{is-counted}
+use Rattle.run_rules.proofs.GrantedChoices.{is-counted}
 use Rattle.run_rules.proofs.Intentions.{intended-pushed}
 use Rattle.run_rules.proofs.Numbers.{left-any, length-left}
 use Rattle.run_rules.proofs.Words.{some-able, has-word}
+use Rattle.selected_order.proofs.Announcements.{left-announces}
 use Rattle.selected_order.proofs.EndsInOrder.{unforced-able}
 use Rattle.selected_order.proofs.FreeChoice.{IsFreeChoice, free-choice, other_up_to}
 use Rattle.selected_order.proofs.InOrder.{left_of}
 use Rattle.selected_order.proofs.NarrowCandidates.{intended-narrow}
-use Rattle.selected_order.proofs.SaidWords.{left-said}
 use Rattle.selected_order.proofs.SameBounds.{IsStepwise, bound-is}
-use Rattle.selected_order.proofs.SameLeft.{IsEvery, ended-left, has-every, kept-all}
+use Rattle.selected_order.proofs.SameNumbers.{IsEvery, ended-left, has-every, kept-all}
 use Rattle.selected_order.proofs.UnforcedGrants.{surw-intended}
 
 -- what is known of a script and a journal where it has neither a wrong count nor a refusal
@@ -66,7 +66,7 @@ left-narrow script journal thread is some =
     let left : List ℕ = left_of setup journal in
     let long = length-left setup.selection setup.counts journal in
     let within : thread < setup.threads = omega (arith, listed left thread 0 some, long, is.every.counted) in
-    let word = left-said (get_or left thread 0) (said script journal thread) some (ended-left script journal thread is.counted within) in
+    let word = left-announces (get_or left thread 0) (announcement script journal thread) some (ended-left script journal thread is.counted within) in
     intended-narrow script journal thread word.event is.every.free is.legal within word.is
 
 -- so it is the one that is chosen
@@ -147,7 +147,7 @@ choice-same script journal is legal step counted going selected other answered =
     let left : List ℕ = left_of setup journal in
     let sums : List ℕ = map sum step.before in
     let some : 0 < sum left = some-left setup x is.every counted going in
-    let bounds : sums ++ sum left ∷ [] ≡ asked_over (urw_bounds_at setup) (earlier x) ++ urw_bounds_at setup x =
+    let bounds : sums ++ sum left ∷ [] ≡ bounds_over (urw_bounds_at setup) (earlier x) ++ urw_bounds_at setup x =
     (λ i. step.bounds i ++ sym (bound-is script journal is legal counted) i) in
     let picked = picked_from left (length step.before) (answers (sums ++ sum left ∷ [])) in
     let intended =

@@ -13,27 +13,27 @@ use Rattle.walk_rules.specs.Strategies.{counts_down}
 use Rattle.walk_rules.specs.Urw.{urw_thread}
 use Rattle.run_rules.specs.declared.entry.Entry.{Entry}
 use Rattle.run_rules.specs.declared.verdict.Verdict.{Verdict}
-use Rattle.run_rules.specs.Asked.{answers_at}
-use Rattle.run_rules.specs.Left.{left_at}
-use Rattle.run_rules.specs.Legal.{IsLegal}
+use Rattle.run_rules.specs.Bounds.{answers_at}
+use Rattle.run_rules.specs.LegalJournal.{IsLegal}
+use Rattle.run_rules.specs.NumbersLeft.{left_at}
 use Rattle.run_rules.specs.Position.{Position, position_of, seen_at}
 use Rattle.run_rules.specs.Setup.{Setup, Script}
 use Rattle.run_rules.specs.SurwChoice.{surw_choice}
 use Rattle.run_rules.specs.UrwChoice.{urw_bounds_at, urw_choice}
-use Rattle.run_rules.specs.Verdict.{first_miscounted, wrong_count, ended, step_limit, deadlock, refused, first_of, verdict_at}
-use Rattle.run_rules.proofs.Counts.{none-miscounted}
+use Rattle.run_rules.specs.Verdict.{first_miscounted, wrong_count, end_of_threads, step_limit, deadlock, refusal, first_of, verdict_at, miscount}
 use Rattle.run_rules.proofs.Prefixes.{AtEach, IsNext, next-at, each-prefix}
-use Rattle.run_rules.proofs.Goings.{GoesOnAfter, prefixes-going, going-prefixes}
+use Rattle.run_rules.proofs.RunPrefixes.{GoesOnAfter, prefixes-going, going-prefixes}
 use Rattle.run_rules.proofs.Scripts.{legal-prefix}
 use Rattle.run_rules.proofs.Verdicts.{grant-parts, verdict-none}
+use Rattle.run_rules.proofs.WrongCounts.{none-miscounted}
 use Rattle.selected_order.specs.SurwIsUrw.{SurwIsUrw, setup_under, under}
 use Rattle.selected_order.proofs.EndsInOrder.{choice-is}
 use Rattle.selected_order.proofs.FreeChoice.{other-answers}
 use Rattle.selected_order.proofs.NoDeadlock.{no-deadlock}
-use Rattle.selected_order.proofs.NoneLeft.{wrong_of, wrong-is}
+use Rattle.selected_order.proofs.NothingLeft.{wrong-is}
 use Rattle.selected_order.proofs.SameBounds.{IsStepwise, stepwise-none, stepwise-more}
 use Rattle.selected_order.proofs.SameChoice.{choice-same}
-use Rattle.selected_order.proofs.SameLeft.{IsEvery}
+use Rattle.selected_order.proofs.SameNumbers.{IsEvery}
 
 -- what is asked of a script and its sources
 record IsSame (script : Script) : Type 0 where
@@ -78,10 +78,10 @@ verdict-same : (setup : Setup) (x : Position) → setup.rule ≡ Surw
 unfolding verdict_at seen_at urw_choice
 verdict-same setup x rule same =
     let n : ℕ = length x.journal in
-    let wrong : Option Verdict = option_map (wrong_of setup x) (first_miscounted setup x) in
-    (λ i. first_of (wrong-is setup x rule i ∷ ended x ∷ step_limit setup x ∷ deadlock setup x ∷ refused n (choice-is setup x rule i) ∷ []))
-    ∙ last-same wrong (ended x) (step_limit setup x) (deadlock setup x) (refused n (surw_choice setup x)) (refused n (urw_choice setup x))
-    (λ counted more short able. ap (refused n) (same (none-counted setup x rule (wrong-is setup x rule ∙ counted)) able))
+    let wrong : Option Verdict = option_map (miscount setup x) (first_miscounted setup x) in
+    (λ i. first_of (wrong-is setup x rule i ∷ end_of_threads x ∷ step_limit setup x ∷ deadlock setup x ∷ refusal n (choice-is setup x rule i) ∷ []))
+    ∙ last-same wrong (end_of_threads x) (step_limit setup x) (deadlock setup x) (refusal n (surw_choice setup x)) (refusal n (urw_choice setup x))
+    (λ counted more short able. ap (refusal n) (same (none-counted setup x rule (wrong-is setup x rule ∙ counted)) able))
 
 -- ---- one prefix after another
 

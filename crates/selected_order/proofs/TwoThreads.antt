@@ -5,6 +5,7 @@ use Rattle.std.specs.List.{count_by}
 use Rattle.std.specs.Option.{IsSome}
 use Rattle.std.specs.Str.{bytes_eq}
 use Rattle.draw_split.specs.AllDraws.{all_draws, factorial, factorials}
+use Rattle.surw_base.specs.Number.{wrapping_sum}
 use Rattle.draw_split.specs.DrawList.{IsDrawList}
 use Rattle.draw_split.specs.Rooms.{Fits}
 use Rattle.seed_draws.specs.TapeSource.{loose_tape, strict_tape}
@@ -13,21 +14,21 @@ use Rattle.event_class.specs.declared.event.Event.{Event}
 use Rattle.event_class.specs.declared.event.Event.TheVariants.{Load, Store}
 use Rattle.event_class.specs.declared.pickable.Pickable.TheVariants.{Of}
 use Rattle.event_class.specs.Selection.{has}
-use Rattle.test_world.specs.World.{WorldState, is_enabled, sum_word}
+use Rattle.test_world.specs.World.{WorldState, is_enabled}
 use Rattle.walk_rules.specs.declared.rule.Rule.TheVariants.{Surw}
 use Rattle.run_rules.specs.declared.entry.Entry.{Entry}
-use Rattle.run_rules.specs.Made.{selected_order}
+use Rattle.run_rules.specs.EventsMade.{selected_order}
 use Rattle.run_rules.specs.Run.{IsRunJournal}
 use Rattle.run_rules.specs.Setup.{Script}
 use Rattle.selected_order.specs.EveryOrder.{with_tapes}
 use Rattle.selected_order.specs.SurwScript.{IsTame}
+use Rattle.selected_order.proofs.CountedAnnouncements.{AnnouncesCounts, announces-counts-tame}
 use Rattle.selected_order.proofs.EveryOrder.{orders-come-equally-often}
-use Rattle.selected_order.proofs.SaysSoMany.{SaysSoMany, says-so-many-tame}
 
 -- a load, and a store of one more than it read
 abbrev add_one : List ℕ → Option Event
 add_one [] = Some (Load 0)
-add_one (read ∷ []) = Some (Store 0 (sum_word read 1))
+add_one (read ∷ []) = Some (Store 0 (wrapping_sum read 1))
 add_one _ = None
 
 abbrev two_say : ℕ → List ℕ → Option Event
@@ -70,7 +71,7 @@ record IsOfCell (event : Event) : Type 0 where
 one-says : (replies : List ℕ) (event : Event) → add_one replies ≡ Some event → IsOfCell event
 one-says [] event is = subst IsOfCell (same_Some (Load 0) event is) (record { selected = refl; free = λ world. refl })
 one-says (read ∷ []) event is =
-    subst IsOfCell (same_Some (Store 0 (sum_word read 1)) event is) (record { selected = refl; free = λ world. refl })
+    subst IsOfCell (same_Some (Store 0 (wrapping_sum read 1)) event is) (record { selected = refl; free = λ world. refl })
 one-says (read ∷ stored ∷ rest) event is = absurd (none-some event is)
 
 two-says : (thread : ℕ) (replies : List ℕ) (event : Event) → two_say thread replies ≡ Some event → IsOfCell event
@@ -88,8 +89,8 @@ two-over zero replies enough = one-over replies enough
 two-over (suc zero) replies enough = one-over replies enough
 two-over (suc (suc thread)) replies enough = refl
 
-two-say-so-many : SaysSoMany two_threads
-two-say-so-many = record {
+two-announce-counts : AnnouncesCounts two_threads
+two-announce-counts = record {
   counted = refl;
   going = two-going;
   over = two-over;
@@ -99,7 +100,7 @@ two-say-so-many = record {
 }
 
 pub two-threads-tame : IsTame two_threads
-two-threads-tame = says-so-many-tame two_threads two-say-so-many
+two-threads-tame = announces-counts-tame two_threads two-announce-counts
 
 -- so, with any other tape for each draw list, each order of two events a thread comes on 4 draw lists
 pub two-threads-often : (others_of : List ℕ → List ℕ) (journal_of : List ℕ → List Entry)

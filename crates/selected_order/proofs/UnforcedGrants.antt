@@ -1,4 +1,4 @@
--- What a grant under SURW tells, where the step isn't forced.
+-- What is known of a grant under SURW where the step isn't forced.
 use Rattle.std.proofs.Common.{◌≡◌, ℕ, ◌&&◌, ◌||◌, ◌<◌, ◌≤◌, not, Bool, true, false, cond, List, [], ◌∷◌, ◌++◌, length, get_or, Option, None, Some, is_ok, IsOk, take, Result, Ok, Err, refl, ap, sym, ◌∙◌, arith}
 use Rattle.std.proofs.lemmas.Bool.{eqb-true, eqb-false, cond-false, and_parts, false≢true}
 use Rattle.std.proofs.lemmas.List.Elements.{filter_passes}
@@ -14,7 +14,7 @@ use Rattle.walk_rules.specs.declared.seen.Seen.{Seen}
 use Rattle.walk_rules.specs.declared.seen.Seen.TheVariants.{Held, Able}
 use Rattle.walk_rules.specs.Seen.{is_able, is_chosen, seen_of, able_threads}
 use Rattle.walk_rules.specs.Surw.{candidate_at, candidate_bounds, candidates, is_forced, is_intended, is_narrow, narrow, surw_picked}
-use Rattle.run_rules.specs.Asked.{asked_over}
+use Rattle.run_rules.specs.Bounds.{bounds_over}
 use Rattle.run_rules.specs.Intention.{intended_after}
 use Rattle.run_rules.specs.Position.{Position, earlier, seen_at, seen_word, world_at}
 use Rattle.run_rules.specs.Setup.{Setup}
@@ -74,19 +74,7 @@ pub surw-narrow : (setup : Setup) (x : Position) (thread : ℕ) → IsSource set
     → IsNarrowGrant (intended_after setup x.journal) (seen_at setup x) thread
 unfolding surw_choice
 surw-narrow setup x thread other granted =
-    narrow-grant (intended_after setup x.journal) (seen_at setup x) setup.other.answers (asked_over (surw_other_at setup) (earlier x)) thread other granted
-
--- ---- there is a candidate
-
-either-some : (forced : Bool) (all narrow : List ℕ) → 0 < length all → (forced ≡ false → 0 < length narrow) → 0 < length (cond forced all narrow)
-either-some true all narrow some more = some
-either-some false all narrow some more = more refl
-
--- where some thread is able there is a candidate
-pub candidates-some : (intended : Option ℕ) (view : List Seen) → 0 < length (able_threads view) → 0 < length (candidates intended view)
-candidates-some intended view some =
-    either-some (is_forced intended view) (able_threads view) (narrow intended view) some
-    (λ unforced. omega (arith, eqb-false (length (narrow intended view)) 0 unforced))
+    narrow-grant (intended_after setup x.journal) (seen_at setup x) setup.other.answers (bounds_over (surw_other_at setup) (earlier x)) thread other granted
 
 -- ---- an able thread's word
 

@@ -11,7 +11,7 @@ use Rattle.seed_draws.specs.TapeSource.{loose_draws, loose_tape, strict_draws, s
 use Rattle.walk_rules.specs.declared.rule.Rule.TheVariants.{Surw}
 use Rattle.run_rules.specs.declared.entry.Entry.{Entry}
 use Rattle.run_rules.specs.declared.plan.Plan.{Plan}
-use Rattle.run_rules.specs.Made.{selected_order}
+use Rattle.run_rules.specs.EventsMade.{selected_order}
 use Rattle.run_rules.specs.Plan.{script_of}
 use Rattle.run_rules.specs.Run.{IsRunJournal}
 use Rattle.run_rules.specs.Setup.{Script}
@@ -36,8 +36,10 @@ EveryOrderOf script = script.setup.rule ≡ Surw → IsTame script → (others d
 
 -- and so, with any other tape for each draw list, each order that fits the counts comes on equally many draw lists
 abbrev pub OrdersComeEquallyOftenOf : Script → Type 0
-OrdersComeEquallyOftenOf script = script.setup.rule ≡ Surw → IsTame script → (others_of : List ℕ → List ℕ) (journal_of : List ℕ → List Entry)
-    → ((draws : List ℕ) → IsDrawList script.setup.counts draws → IsRunJournal (with_tapes script draws (others_of draws)) (journal_of draws))
+OrdersComeEquallyOftenOf script = script.setup.rule ≡ Surw → IsTame script
+    → (others_of : List ℕ → List ℕ) (journal_of : List ℕ → List Entry)
+    → ((draws : List ℕ) → IsDrawList script.setup.counts draws
+    → IsRunJournal (with_tapes script draws (others_of draws)) (journal_of draws))
     → (order : List ℕ) → Fits script.setup.counts order
     → count_by (λ draws. bytes_eq (selected_order script.setup.selection (journal_of draws)) order) (all_draws script.setup.counts)
     ≡ factorials script.setup.counts

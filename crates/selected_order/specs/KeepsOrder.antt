@@ -1,4 +1,4 @@
--- What the selected order theorem says of a run as it is told.
+-- What the selected order theorem says of the outcome of a run.
 use Rattle.std.specs.Prelude.{◌≡◌, IsOk, sum}
 use Rattle.seed_draws.specs.Answers.{NeverRefuses}
 use Rattle.seed_draws.specs.Falling.{falling}
@@ -13,6 +13,7 @@ use Rattle.selected_order.specs.SurwScript.{IsTame}
 -- the script is never blocked, its counts are true, it keeps within the step limit and the sources don't refuse, it has ended and
 -- no entry is forced
 pub record KeepsOrder (script : Script) (outcome : Outcome) : Type 0 where
-  pub drawn : script.setup.rule ≡ Surw → outcome.verdict ≡ Ended → IsUnforced outcome.journal → IsInDrawnOrder script.setup outcome.journal
+  pub drawn : script.setup.rule ≡ Surw → outcome.verdict ≡ Ended → IsUnforced outcome.journal
+      → IsInDrawnOrder script.setup outcome.journal
   pub ends : script.setup.rule ≡ Surw → IsTame script → IsOk (script.setup.selected.answers (falling (sum script.setup.counts)))
       → NeverRefuses script.setup.other.answers → (outcome.verdict ≡ Ended) × IsUnforced outcome.journal

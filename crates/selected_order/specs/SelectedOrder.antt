@@ -6,7 +6,7 @@ use Rattle.seed_draws.specs.Falling.{falling}
 use Rattle.walk_rules.specs.declared.rule.Rule.TheVariants.{Surw}
 use Rattle.run_rules.specs.declared.entry.Entry.{Entry}
 use Rattle.run_rules.specs.declared.verdict.Verdict.TheVariants.{Ended}
-use Rattle.run_rules.specs.Made.{selected_order}
+use Rattle.run_rules.specs.EventsMade.{selected_order}
 use Rattle.run_rules.specs.Position.{Position}
 use Rattle.run_rules.specs.Run.{GoesOn}
 use Rattle.run_rules.specs.Setup.{Setup}
@@ -25,4 +25,5 @@ pub record IsInDrawnOrder (setup : Setup) (journal : List Entry) : Type 0 where
 -- where a run under SURW ends and no entry is forced, its selected events stand in the order that the draws name
 abbrev pub EndsInOrder : Type 0
 EndsInOrder = (setup : Setup) (x : Position) → setup.rule ≡ Surw → IsSource setup.selected.answers → IsSource setup.other.answers
-    → length setup.counts ≡ length x.words → GoesOn setup x → IsUnforced x.journal → verdict_at setup x ≡ Some Ended → IsInDrawnOrder setup x.journal
+    → length setup.counts ≡ length x.words → GoesOn setup x → IsUnforced x.journal → verdict_at setup x ≡ Some Ended
+    → IsInDrawnOrder setup x.journal

@@ -7,28 +7,29 @@ use Rattle.test_world.specs.World.{new_world, is_enabled}
 use Rattle.walk_rules.specs.declared.rule.Rule.TheVariants.{Surw}
 use Rattle.run_rules.specs.declared.entry.Entry.{Entry}
 use Rattle.run_rules.specs.declared.verdict.Verdict.TheVariants.{Ended}
+use Rattle.run_rules.specs.EventsMade.{events_made}
 use Rattle.run_rules.specs.Journal.{world_after}
-use Rattle.run_rules.specs.Legal.{IsLegal}
-use Rattle.run_rules.specs.Made.{events_made}
+use Rattle.run_rules.specs.LegalJournal.{IsLegal}
 use Rattle.run_rules.specs.Position.{position_of}
+use Rattle.run_rules.specs.Replies.{announcement}
 use Rattle.run_rules.specs.Run.{IsRunJournal}
 use Rattle.run_rules.specs.Setup.{Script}
-use Rattle.run_rules.specs.Told.{said}
 use Rattle.run_rules.specs.Verdict.{verdict_at}
 use Rattle.selected_order.specs.SelectedOrder.{IsUnforced}
 
 -- no thread announces an event
 abbrev pub HasEnded : Script → List Entry → Type 0
-HasEnded script journal = (thread : ℕ) → thread < script.setup.threads → said script journal thread ≡ None
+HasEnded script journal = (thread : ℕ) → thread < script.setup.threads → announcement script journal thread ≡ None
 
 -- never blocked: each announced event is enabled
 abbrev pub IsNeverBlocked : Script → Type 0
 IsNeverBlocked script = (journal : List Entry) → IsLegal script journal → (thread : ℕ) (event : Event) → thread < script.setup.threads
-    → said script journal thread ≡ Some event → IsTrue (is_enabled (world_after (new_world script.setup.size) journal) event)
+    → announcement script journal thread ≡ Some event → IsTrue (is_enabled (world_after (new_world script.setup.size) journal) event)
 
 -- true counts: where no thread announces an event each made as many selected events as counted
 abbrev pub HasTrueCounts : Script → Type 0
-HasTrueCounts script = (journal : List Entry) → IsLegal script journal → HasEnded script journal → (thread : ℕ) → thread < script.setup.threads
+HasTrueCounts script = (journal : List Entry) → IsLegal script journal → HasEnded script journal
+    → (thread : ℕ) → thread < script.setup.threads
     → events_made script.setup.selection journal thread ≡ slice_index script.setup.counts thread
 
 -- within the step limit
@@ -46,5 +47,6 @@ pub record IsTame (script : Script) : Type 0 where
 abbrev pub EndsUnforced : Type 0
 EndsUnforced = (script : Script) (journal : List Entry) → script.setup.rule ≡ Surw → IsTame script
     → IsSource script.setup.selected.answers → IsSource script.setup.other.answers
-    → IsOk (script.setup.selected.answers (falling (sum script.setup.counts))) → NeverRefuses script.setup.other.answers → IsRunJournal script journal
+    → IsOk (script.setup.selected.answers (falling (sum script.setup.counts))) → NeverRefuses script.setup.other.answers
+    → IsRunJournal script journal
     → (verdict_at script.setup (position_of script journal) ≡ Some Ended) × IsUnforced journal

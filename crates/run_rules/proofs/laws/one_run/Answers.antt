@@ -1,7 +1,7 @@
 use Rattle.seed_draws.specs.Answers.{source_of}
 use Rattle.run_rules.specs.Plan.{script_of}
 use Rattle.seed_draws.proofs.Asked.{is-source}
-use Rattle.run_rules.proofs.TheRun.{one_run}
+use Rattle.run_rules.proofs.OneRun.{one_run}
 use Rattle.run_rules.proofs.laws.one_run.Goals as goal
 
 pub returns : goal.returns

@@ -1,0 +1,19 @@
+-- Plain's pick is its choice.
+use Rattle.std.proofs.Common.{refl}
+use Rattle.event_class.specs.Selection.{has}
+use Rattle.walk_rules.specs.Plain.{plain}
+use Rattle.walk_rules.specs.State.{new_memory}
+use Rattle.run_rules.specs.PlainChoice.{plain_choice, plain_choices}
+use Rattle.run_rules.specs.StepwisePicks.{PicksChoices}
+use Rattle.run_rules.proofs.UrwPicks.{kept-same}
+
+pub plain-picks : PicksChoices plain plain_choices
+unfolding plain_choice
+plain-picks = record {
+  asks_selected = λ setup x answered. refl;
+  asks_other = λ setup x answered. refl;
+  picks = λ setup x answered. refl;
+  starts = λ setup words. refl;
+  ignores_words = λ setup x y same again. refl;
+  keeps = λ setup journal entry before after word answered chosen. kept-same new_memory (has setup.selection entry.event) entry.forced refl;
+}
