@@ -1,6 +1,5 @@
 -- Where an intention is due, and what is left where the last one was drawn, with one entry more.
-use Rattle.std.proofs.Common.{◌≡◌, ℕ, zero, suc, ◌+◌, ◌-◌, ◌≤◌, Bool, true, false, List, [], ◌∷◌, ◌++◌, length, take, sum, refl, ap, sym, subst, ◌∙◌, inl, inr, arith}
-use Rattle.std.proofs.Math.Seq.{take-length}
+use Rattle.std.proofs.Common.{◌≡◌, ℕ, ◌-◌, ◌≤◌, Bool, true, false, List, [], ◌∷◌, ◌++◌, take, sum, refl, ap, sym, ◌∙◌, inl, inr, arith}
 use Rattle.std.proofs.lemmas.Bool.{cases_Bool, false≢true}
 use Rattle.std.proofs.lemmas.List.Sums.{sum-map, sum_by-le-sum_by}
 use Rattle.std.specs.List.{enumerate_from}
@@ -12,20 +11,7 @@ use Rattle.run_rules.specs.NumbersLeft.{numbers_left}
 use Rattle.run_rules.specs.SurwChoice.{is_due_after, is_fresh}
 use Rattle.run_rules.proofs.Intentions.{last-pushed, lefts-kept, lefts-more}
 use Rattle.run_rules.proofs.Numbers.{made-more}
-use Rattle.run_rules.proofs.Prefixes.{IsNext, next-at}
-
--- what holds of no entries, and of one entry more, holds of every journal
-module _ (P : List Entry → Type 0) (none : P []) (more : (journal : List Entry) (entry : Entry) → P journal → P (journal ++ entry ∷ [])) where
-  at-prefix : (journal : List Entry) (k : ℕ) → k ≤ length journal → P (take k journal)
-  at-prefix journal zero within = none
-  at-prefix journal (suc k) within =
-      let next : IsNext journal k = next-at journal k (omega (arith, within)) in
-      let one : k + 1 ≡ suc k = omega arith in
-      subst P (sym next.cut ∙ ap (λ n. take n journal) one)
-      (more (take k journal) next.item (at-prefix journal k (omega (arith, within))))
-
-  pub by-prefixes : (journal : List Entry) → P journal
-  by-prefixes journal = subst P (take-length journal) (at-prefix journal (length journal) (omega arith))
+use Rattle.run_rules.proofs.Prefixes.{at-whole}
 
 -- the last entry decides
 due-more : (selection : List Pickable) (at_start : Bool) (journal : List Entry) (entry : Entry)
@@ -76,7 +62,7 @@ module _ (selection : List Pickable) (counts : List ℕ) where
 
   pub fresh-last : (journal : List Entry) → is_fresh selection journal ≡ true → last_left (lefts_of journal) ≡ left_of journal
   unfolding IsLast
-  fresh-last journal = by-prefixes IsLast last-none last-more journal
+  fresh-last journal = at-whole IsLast journal last-none (λ k entry at. last-more (take k journal) entry)
 
   -- and no more is left than there
   IsWithin : List Entry → Type 0
@@ -96,4 +82,4 @@ module _ (selection : List Pickable) (counts : List ℕ) where
 
   pub left-within : (journal : List Entry) → sum (left_of journal) ≤ sum (last_left (lefts_of journal))
   unfolding IsWithin
-  left-within journal = by-prefixes IsWithin within-none within-more journal
+  left-within journal = at-whole IsWithin journal within-none (λ k entry at. within-more (take k journal) entry)

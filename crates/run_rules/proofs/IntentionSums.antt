@@ -14,9 +14,10 @@ use Rattle.run_rules.specs.NumbersLeft.{numbers_left}
 use Rattle.run_rules.specs.Position.{Position, earlier, position_at}
 use Rattle.run_rules.specs.Setup.{Setup}
 use Rattle.run_rules.specs.SurwChoice.{is_due_after, is_fresh, surw_selected_at}
-use Rattle.run_rules.proofs.DueIntentions.{by-prefixes, fresh-more, left-less, left-within}
+use Rattle.run_rules.proofs.DueIntentions.{fresh-more, left-less, left-within}
 use Rattle.run_rules.proofs.EarlierPositions.{map-range-same}
 use Rattle.run_rules.proofs.Intentions.{last-pushed, lefts-kept, lefts-more}
+use Rattle.run_rules.proofs.Prefixes.{at-whole}
 
 -- ---- the sums that are positive
 
@@ -63,7 +64,7 @@ module _ (selection : List Pickable) (counts : List ℕ) where
 
   pub all-positive : (journal : List Entry) → 0 < sum (last_left (lefts_of journal)) → positive_sums (lefts_of journal) ≡ map sum (lefts_of journal)
   unfolding ArePositive
-  all-positive journal = by-prefixes ArePositive positive-none positive-next journal
+  all-positive journal = at-whole ArePositive journal positive-none (λ k entry at. positive-next (take k journal) entry)
 
   -- ---- what was asked
 
@@ -122,7 +123,7 @@ module _ (selection : List Pickable) (counts : List ℕ) where
   sums-asked journal =
       let n : ℕ = length journal in
       let prefixes : List (List Entry) = map (λ k. take k journal) (range_with_len 0 n) in
-      by-prefixes AreAsked sums-none sums-next journal
+      at-whole AreAsked journal sums-none (λ k entry at. sums-next (take k journal) entry)
       ∙ ap (flat_map ask) (map-range_with_len_more (λ k. take k journal) 0 n n (omega arith) ∙ ap (λ prefix. prefixes ++ prefix ∷ []) (take-length journal))
       ∙ sym (flat_map_more ask [] prefixes journal)
 

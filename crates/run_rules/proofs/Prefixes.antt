@@ -1,5 +1,6 @@
 -- What holds of each entry of a journal and those before it.
-use Rattle.std.proofs.Common.{◌≡◌, ℕ, zero, suc, ◌+◌, ◌<◌, List, [], ◌∷◌, ◌++◌, ◌⊎◌, length, take, Some, refl, ap, sym, subst, ◌∙◌, inl, inr, arith}
+use Rattle.std.proofs.Common.{◌≡◌, ℕ, zero, suc, ◌+◌, ◌<◌, ◌≤◌, List, [], ◌∷◌, ◌++◌, ◌⊎◌, length, take, Some, refl, ap, sym, subst, ◌∙◌, inl, inr, arith}
+use Rattle.std.proofs.Math.Seq.{take-length}
 use Rattle.std.proofs.lemmas.List.{take-append-le, take-take, take_at, take_more}
 use Rattle.std.proofs.lemmas.Option.{none-some, same_Some, slice_get_cases, slice_get_within}
 use Rattle.std.specs.List.{slice_get}
@@ -54,3 +55,19 @@ each-more P xs x each here k y at = elim (more-item xs x k y at) [
   | inr last ↦
       subst (λ prefix. P prefix y) (sym (take_at xs (x ∷ []) k (sym last.1))) (subst (λ z. P xs z) last.0 here)
 ]
+
+-- what holds of no items, and with each item of a list more, holds of each prefix of the list
+pub at-prefix : {X : Type 0} (P : List X → Type 0) (xs : List X) → P []
+    → ((k : ℕ) (x : X) → slice_get xs k ≡ Some x → P (take k xs) → P (take k xs ++ x ∷ []))
+    → (k : ℕ) → k ≤ length xs → P (take k xs)
+at-prefix P xs none more zero within = none
+at-prefix P xs none more (suc k) within =
+    let next : IsNext xs k = next-at xs k (omega (arith, within)) in
+    let one : k + 1 ≡ suc k = omega arith in
+    subst P (sym next.cut ∙ ap (λ n. take n xs) one)
+    (more k next.item next.there (at-prefix P xs none more k (omega (arith, within))))
+
+-- and of the list
+pub at-whole : {X : Type 0} (P : List X → Type 0) (xs : List X) → P []
+    → ((k : ℕ) (x : X) → slice_get xs k ≡ Some x → P (take k xs) → P (take k xs ++ x ∷ [])) → P xs
+at-whole P xs none more = subst P (take-length xs) (at-prefix P xs none more (length xs) (omega arith))

@@ -1,22 +1,18 @@
--- Choices of SURW, worked out: a lock is held over a selected store.
+-- What SURW keeps and asks in a run, worked out: a lock is held over a selected store.
 use Rattle.std.proofs.Common.{◌≡◌, [], ◌∷◌, true, false, None, Some, refl}
 use Rattle.draw_split.specs.Bag.{bag, pick}
 use Rattle.event_class.specs.declared.event.Event.TheVariants.{Acquire, Release, Store}
 use Rattle.event_class.specs.declared.pickable.Pickable.TheVariants.{CellNo}
 use Rattle.seed_draws.specs.Answers.{answers}
 use Rattle.seed_draws.specs.TapeSource.{loose_tape, strict_tape}
-use Rattle.walk_rules.specs.declared.picked.Picked.TheVariants.{Grant}
 use Rattle.walk_rules.specs.declared.rule.Rule.TheVariants.{Plain}
-use Rattle.walk_rules.specs.Seen.{able_threads}
 use Rattle.walk_rules.specs.State.{new_memory}
-use Rattle.walk_rules.specs.Surw.{narrow}
 use Rattle.run_rules.specs.EventsMade.{events_made}
 use Rattle.run_rules.specs.Intention.{ending_prefixes, intended_after, intention_lefts}
-use Rattle.run_rules.specs.Journal.{world_after}
 use Rattle.run_rules.specs.NumbersLeft.{numbers_left}
-use Rattle.run_rules.specs.Position.{Position, earlier, position_at, seen_at, words_before}
+use Rattle.run_rules.specs.Position.{Position, earlier, position_at}
 use Rattle.run_rules.specs.Setup.{Setup}
-use Rattle.run_rules.specs.SurwChoice.{is_due_after, surw_choice, surw_memory_at}
+use Rattle.run_rules.specs.SurwChoice.{is_due_after, surw_memory_at}
 use Rattle.run_rules.proofs.IntentionSums.{intentions_asked}
 
 -- the rule isn't looked at
@@ -46,34 +42,21 @@ run = record {
   words = None ∷ None ∷ [];
 }
 
-first : surw_choice setup (position_at run 0) ≡ Grant 0 false
-unfolding surw_choice intended_after intention_lefts ending_prefixes is_due_after earlier position_at words_before seen_at world_after numbers_left events_made able_threads narrow bag pick answers
-first = refl
-
--- thread 1 is intended and held, and thread 0 announces a selected store
-forced : surw_choice setup (position_at run 1) ≡ Grant 0 true
-unfolding surw_choice intended_after intention_lefts ending_prefixes is_due_after earlier position_at words_before seen_at world_after numbers_left events_made able_threads narrow bag pick answers
-forced = refl
-
 -- the forced step leaves the intention
-still : surw_memory_at setup (position_at run 2) ≡ record new_memory { intended = Some 1 }
-unfolding surw_choice intended_after intention_lefts ending_prefixes is_due_after earlier position_at words_before seen_at world_after numbers_left events_made able_threads narrow bag pick answers
-still = refl
+intention-kept : surw_memory_at setup (position_at run 2) ≡ record new_memory { intended = Some 1 }
+unfolding intended_after intention_lefts ending_prefixes is_due_after position_at numbers_left events_made bag pick answers
+intention-kept = refl
 
 -- one draw was asked for so far, below the two events left at first
-asked : intentions_asked setup (position_at run 4) ≡ 2 ∷ []
-unfolding surw_choice intended_after intention_lefts ending_prefixes is_due_after earlier position_at words_before seen_at world_after numbers_left events_made able_threads narrow bag pick answers
-asked = refl
-
-met : surw_choice setup (position_at run 4) ≡ Grant 1 false
-unfolding surw_choice intended_after intention_lefts ending_prefixes is_due_after earlier position_at words_before seen_at world_after numbers_left events_made able_threads narrow bag pick answers
-met = refl
+asked-once : intentions_asked setup (position_at run 4) ≡ 2 ∷ []
+unfolding is_due_after earlier position_at numbers_left events_made
+asked-once = refl
 
 -- after the step that ends it no event is left, so no draw is asked for and no thread is intended
-over : surw_memory_at setup (position_at run 5) ≡ new_memory
-unfolding surw_choice intended_after intention_lefts ending_prefixes is_due_after earlier position_at words_before seen_at world_after numbers_left events_made able_threads narrow bag pick answers
-over = refl
+nothing-kept : surw_memory_at setup (position_at run 5) ≡ new_memory
+unfolding intended_after intention_lefts ending_prefixes is_due_after position_at numbers_left events_made bag pick answers
+nothing-kept = refl
 
-none : intentions_asked setup (position_at run 5) ≡ 2 ∷ []
-unfolding surw_choice intended_after intention_lefts ending_prefixes is_due_after earlier position_at words_before seen_at world_after numbers_left events_made able_threads narrow bag pick answers
-none = refl
+nothing-asked : intentions_asked setup (position_at run 5) ≡ 2 ∷ []
+unfolding is_due_after earlier position_at numbers_left events_made
+nothing-asked = refl

@@ -1,6 +1,5 @@
 -- A script of which each thread announces as many selected events as counted, and no acquire, is tame.
-use Rattle.std.proofs.Common.{◌≡◌, ℕ, zero, suc, ◌+◌, ◌==◌, ◌&&◌, ◌<◌, ◌≤◌, Bool, true, false, cond, IsTrue, List, [], ◌∷◌, ◌++◌, length, sum, take, get_or, None, Some, refl, ap, sym, subst, ◌∙◌, inl, inr, arith}
-use Rattle.std.proofs.Math.Seq.{take-length}
+use Rattle.std.proofs.Common.{◌≡◌, ℕ, ◌+◌, ◌==◌, ◌&&◌, ◌<◌, ◌≤◌, Bool, true, false, cond, IsTrue, List, [], ◌∷◌, ◌++◌, length, sum, take, get_or, None, Some, refl, ap, sym, subst, ◌∙◌, inl, inr, arith}
 use Rattle.std.proofs.lemmas.Bool.{cases_eq, cases_lt, eq-eqb, false≢true, ne_eqb}
 use Rattle.std.proofs.lemmas.List.{length_push}
 use Rattle.std.proofs.lemmas.Option.{none-some}
@@ -18,7 +17,7 @@ use Rattle.run_rules.specs.Replies.{replies_told}
 use Rattle.run_rules.specs.Setup.{Script}
 use Rattle.run_rules.proofs.Journals.{told-other, told-same}
 use Rattle.run_rules.proofs.Numbers.{left-any, left-more, left-none, made-more}
-use Rattle.run_rules.proofs.Prefixes.{IsNext, next-at}
+use Rattle.run_rules.proofs.Prefixes.{at-whole}
 use Rattle.selected_order.specs.SurwScript.{IsTame}
 use Rattle.selected_order.proofs.InOrder.{left_of}
 
@@ -104,19 +103,9 @@ on-count-more script journal entry is next so_far =
       );
     }
 
-on-count-at : (script : Script) (journal : List Entry) (k : ℕ) → AnnouncesCounts script → IsLegal script journal → k ≤ length journal
-    → IsOnCount script (take k journal)
-on-count-at script journal zero is legal within = on-count-none script
-on-count-at script journal (suc k) is legal within =
-    let next : IsNext journal k = next-at journal k (omega (arith, within)) in
-    let one : k + 1 ≡ suc k = omega arith in
-    subst (IsOnCount script) (sym next.cut ∙ ap (λ n. take n journal) one)
-    (on-count-more script (take k journal) next.item is (legal k next.item next.there)
-    (on-count-at script journal k is legal (omega (arith, within))))
-
 on-count : (script : Script) (journal : List Entry) → AnnouncesCounts script → IsLegal script journal → IsOnCount script journal
 on-count script journal is legal =
-    subst (IsOnCount script) (take-length journal) (on-count-at script journal (length journal) is legal (omega arith))
+    at-whole (IsOnCount script) journal (on-count-none script) (λ k entry at. on-count-more script (take k journal) entry is (legal k entry at))
 
 -- one that announces none was told as many
 told-enough : (script : Script) (thread : ℕ) (replies : List ℕ) → AnnouncesCounts script → script.says thread replies ≡ None

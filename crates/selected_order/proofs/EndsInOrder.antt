@@ -1,6 +1,5 @@
 -- A run under SURW that ends unforced has its selected events in the order that the draws name.
-use Rattle.std.proofs.Common.{◌≡◌, ℕ, zero, suc, ◌+◌, ◌<◌, ◌≤◌, true, false, List, [], ◌∷◌, ◌++◌, length, map, sum, take, drop, set, get_or, Option, None, Some, ap, sym, subst, ◌∙◌, arith}
-use Rattle.std.proofs.Math.Seq.{take-length}
+use Rattle.std.proofs.Common.{◌≡◌, ℕ, ◌+◌, ◌<◌, true, false, List, [], ◌∷◌, ◌++◌, length, map, sum, take, drop, set, get_or, Option, None, Some, ap, sym, subst, ◌∙◌, arith}
 use Rattle.std.proofs.lemmas.Bool.{and_parts}
 use Rattle.std.proofs.lemmas.List.{append-nil, drop_more, get_or-set_same, length-set}
 use Rattle.std.proofs.lemmas.Option.{get_or_from_slice_get, slice_get_within}
@@ -21,7 +20,7 @@ use Rattle.run_rules.specs.RuleChoice.{choice, choices}
 use Rattle.run_rules.specs.Run.{GoesOn}
 use Rattle.run_rules.specs.Setup.{Setup}
 use Rattle.run_rules.specs.SurwChoice.{surw_choice}
-use Rattle.run_rules.proofs.Prefixes.{IsNext, next-at}
+use Rattle.run_rules.proofs.Prefixes.{at-whole}
 use Rattle.run_rules.proofs.Words.{has-word}
 use Rattle.selected_order.specs.SelectedOrder.{IsUnforced, IsInDrawnOrder, EndsInOrder}
 use Rattle.selected_order.proofs.InOrder.{IsInOrder, left_of, in-order-none, in-order-more}
@@ -59,27 +58,21 @@ unforced-able setup x thread other granted =
 pub choice-is : (setup : Setup) (x : Position) → setup.rule ≡ Surw → choice setup x ≡ surw_choice setup x
 choice-is setup x rule = ap (λ (r : Rule). (choices r).choice_at setup x) rule
 
-in-order-at : (setup : Setup) (x : Position) → setup.rule ≡ Surw → IsSource setup.selected.answers → IsSource setup.other.answers
-    → GoesOn setup x → IsUnforced x.journal → (k : ℕ) → k ≤ length x.journal → IsInOrder setup (take k x.journal)
+in-order-next : (setup : Setup) (x : Position) → setup.rule ≡ Surw → IsSource setup.selected.answers → IsSource setup.other.answers
+    → GoesOn setup x → IsUnforced x.journal → (k : ℕ) (entry : Entry) → slice_get x.journal k ≡ Some entry
+    → IsInOrder setup (take k x.journal) → IsInOrder setup (take k x.journal ++ entry ∷ [])
 unfolding position_at
-in-order-at setup x rule selected other going unforced zero within = in-order-none setup selected.none
-in-order-at setup x rule selected other going unforced (suc k) within =
-    let before : IsInOrder setup (take k x.journal) = in-order-at setup x rule selected other going unforced k (omega (arith, within)) in
-    let next : IsNext x.journal k = next-at x.journal k (omega (arith, within)) in
-    let entry : Entry = next.item in
+in-order-next setup x rule selected other going unforced k entry at before =
     let here : Position = position_at x k in
-    let plain = unforced k entry next.there in
-    let chosen = sym (choice-is setup here rule) ∙ (going k entry next.there).chosen in
+    let plain = unforced k entry at in
+    let chosen = sym (choice-is setup here rule) ∙ (going k entry at).chosen in
     let able = unforced-able setup here entry.thread other (chosen ∙ ap (Grant entry.thread) plain) in
-    let word : get_or here.words entry.thread None ≡ Some entry.event = word-at x k entry next.there (has-word setup here entry.thread able).within in
-    let one : k + 1 ≡ suc k = omega arith in
-    subst (IsInOrder setup) (sym next.cut ∙ ap (λ n. take n x.journal) one)
-    (in-order-more setup here entry selected other before plain chosen word)
+    in-order-more setup here entry selected other before plain chosen (word-at x k entry at (has-word setup here entry.thread able).within)
 
 pub in-order-all : (setup : Setup) (x : Position) → setup.rule ≡ Surw → IsSource setup.selected.answers → IsSource setup.other.answers
     → GoesOn setup x → IsUnforced x.journal → IsInOrder setup x.journal
 in-order-all setup x rule selected other going unforced =
-    subst (IsInOrder setup) (take-length x.journal) (in-order-at setup x rule selected other going unforced (length x.journal) (omega arith))
+    at-whole (IsInOrder setup) x.journal (in-order-none setup selected.none) (in-order-next setup x rule selected other going unforced)
 
 -- where nothing is left all draws are used
 falling-none : (n : ℕ) → n ≡ 0 → falling n ≡ []

@@ -1,11 +1,9 @@
 -- The run under SURW of a script that is never blocked and whose counts are true ends, and no entry is forced.
-use Rattle.std.proofs.Common.{◌≡◌, ◌≢◌, ℕ, zero, suc, ◌+◌, ◌==◌, ◌<◌, ◌≤◌, true, false, IsOk, List, [], ◌∷◌, ◌++◌, length, sum, take, get_or, Option, None, Some, ap, sym, subst, ◌∙◌, inl, inr, arith}
-use Rattle.std.proofs.Math.Seq.{take-length}
-use Rattle.std.proofs.lemmas.Bool.{cases_lt, false≢true, ne_eqb, cond-true, cond-false}
+use Rattle.std.proofs.Common.{◌≡◌, ◌≢◌, ℕ, ◌==◌, ◌<◌, true, false, IsOk, List, [], ◌∷◌, ◌++◌, length, sum, take, get_or, Option, None, Some, ap, sym, ◌∙◌, inl, inr, arith}
+use Rattle.std.proofs.lemmas.Bool.{false≢true, ne_eqb, cond-true, cond-false}
 use Rattle.std.proofs.lemmas.List.{length_push}
 use Rattle.std.proofs.lemmas.List.Elements.{All-from_get_or}
 use Rattle.std.proofs.lemmas.List.Folds.{list_any_at, list_any_none}
-use Rattle.std.proofs.lemmas.Option.{same_Some, slice_get_within}
 use Rattle.std.specs.List.{list_any, slice_get}
 use Rattle.std.specs.Option.{option_map, is_some}
 use Rattle.seed_draws.specs.Answers.{IsSource, NeverRefuses}
@@ -24,11 +22,12 @@ use Rattle.run_rules.specs.Replies.{announcement}
 use Rattle.run_rules.specs.RuleChoice.{choice}
 use Rattle.run_rules.specs.Setup.{Setup, Script}
 use Rattle.run_rules.specs.Verdict.{verdict_at, wrong_count, end_of_threads, step_limit, deadlock, refusal, first_of, miscount}
-use Rattle.run_rules.proofs.Prefixes.{AtEach, IsNext, next-at, each-prefix}
+use Rattle.run_rules.proofs.Prefixes.{AtEach, at-whole, each-more, each-none, each-prefix}
 use Rattle.run_rules.proofs.RunPrefixes.{GoesOnAfter, going-prefixes}
 use Rattle.run_rules.proofs.Scripts.{legal-prefix, length-words, word-announcement}
 use Rattle.run_rules.proofs.Verdicts.{grant-parts, none-verdict, verdict-none}
 use Rattle.run_rules.proofs.Words.{some-able, has-word, length-seen}
+use Rattle.selected_order.specs.SelectedOrder.{IsUnforced}
 use Rattle.selected_order.specs.SurwScript.{HasEnded, IsTame, EndsUnforced}
 use Rattle.selected_order.proofs.Announcements.{seen-able}
 use Rattle.selected_order.proofs.Completions.{HasAnnouncement, some-announcement, step_of, step-legal}
@@ -84,20 +83,18 @@ free-after script journal is legal prefixes order going =
     (other-answers script.setup x is.never (no-deadlock script journal legal prefixes) (announcing-able script journal is.tame legal going))
 
 -- a prefix in order, of which no entry is forced
-record IsFreePrefix (script : Script) (journal : List Entry) (k : ℕ) : Type 0 where
-  order : IsInOrder script.setup (take k journal)
-  plain : (j : ℕ) (entry : Entry) → j < k → slice_get journal j ≡ Some entry → entry.forced ≡ false
+record IsFreePrefix (script : Script) (prefix : List Entry) : Type 0 where
+  order : IsInOrder script.setup prefix
+  plain : IsUnforced prefix
 
-prefix-next : (script : Script) (journal : List Entry) (k : ℕ) → IsDrawable script → IsLegal script journal → AtEach (GoesOnAfter script) journal
-    → k < length journal → IsFreePrefix script journal k → IsFreePrefix script journal (suc k)
+prefix-next : (script : Script) (journal : List Entry) → IsDrawable script → IsLegal script journal → AtEach (GoesOnAfter script) journal → (k : ℕ) (entry : Entry)
+    → slice_get journal k ≡ Some entry → IsFreePrefix script (take k journal) → IsFreePrefix script (take k journal ++ entry ∷ [])
 unfolding position_of
-prefix-next script journal k is legal prefixes lt before =
+prefix-next script journal is legal prefixes k entry at before =
     let setup : Setup = script.setup in
     let prefix : List Entry = take k journal in
     let x : Position = position_of script prefix in
-    let next : IsNext journal k = next-at journal k lt in
-    let entry : Entry = next.item in
-    let goes = prefixes k entry next.there in
+    let goes = prefixes k entry at in
     let going = able-announcing script prefix (verdict-none setup x goes.going).3 in
     let earlier = each-prefix (GoesOnAfter script) journal k prefixes in
     let free : IsFreeChoice setup x = free-after script prefix is (legal-prefix script journal k legal) earlier before.order going in
@@ -105,26 +102,18 @@ prefix-next script journal k is legal prefixes lt before =
     let grant = grant-parts entry.thread free.thread entry.forced false (sym chosen ∙ free.chosen) in
     let able = unforced-able setup x entry.thread is.other (chosen ∙ ap (Grant entry.thread) grant.1) in
     let within : entry.thread < setup.threads = omega (arith, (has-word setup x entry.thread able).within, length-words script prefix) in
-    let word : get_or x.words entry.thread None ≡ Some entry.event = word-announcement script prefix entry.thread within ∙ (legal k entry next.there).announced in
-    let one : k + 1 ≡ suc k = omega arith in
+    let word : get_or x.words entry.thread None ≡ Some entry.event = word-announcement script prefix entry.thread within ∙ (legal k entry at).announced in
     record {
-      order = subst (IsInOrder setup) (sym next.cut ∙ ap (λ n. take n journal) one)
-          (in-order-more setup x entry is.selected is.other before.order grant.1 chosen word);
-      plain = λ j other below at. elim (cases_lt j k) [
-        | inl early ↦ before.plain j other early at
-        | inr late ↦
-            let here : j ≡ k = omega (arith, below, late) in
-            let same : entry ≡ other = same_Some entry other (sym next.there ∙ ap (slice_get journal) (sym here) ∙ at) in
-            sym (ap (λ (e : Entry). e.forced) same) ∙ grant.1
-      ];
+      order = in-order-more setup x entry is.selected is.other before.order grant.1 chosen word;
+      plain = each-more (λ before entry. entry.forced ≡ false) prefix entry before.plain grant.1;
     }
 
-prefix-at : (script : Script) (journal : List Entry) (k : ℕ) → IsDrawable script → IsLegal script journal → AtEach (GoesOnAfter script) journal
-    → k ≤ length journal → IsFreePrefix script journal k
-prefix-at script journal zero is legal prefixes within =
-    record { order = in-order-none script.setup is.selected.none; plain = λ j entry lt at. absurd (omega (arith, lt)) }
-prefix-at script journal (suc k) is legal prefixes within =
-    prefix-next script journal k is legal prefixes (omega (arith, within)) (prefix-at script journal k is legal prefixes (omega (arith, within)))
+free-prefix : (script : Script) (journal : List Entry) → IsDrawable script → IsLegal script journal → AtEach (GoesOnAfter script) journal
+    → IsFreePrefix script journal
+free-prefix script journal is legal prefixes =
+    at-whole (IsFreePrefix script) journal
+    (record { order = in-order-none script.setup is.selected.none; plain = each-none (λ before entry. entry.forced ≡ false) })
+    (prefix-next script journal is legal prefixes)
 
 -- ---- the verdict
 
@@ -176,13 +165,12 @@ ends-unforced script journal rule tame selected other all never run =
     let is : IsDrawable script = record { rule = rule; tame = tame; selected = selected; other = other; all = all; never = never } in
     let legal : IsLegal script journal = run.legal in
     let prefixes : AtEach (GoesOnAfter script) journal = going-prefixes script journal legal run.going in
-    let prefix : IsFreePrefix script journal (length journal) = prefix-at script journal (length journal) is legal prefixes (omega arith) in
-    let order : IsInOrder script.setup journal = subst (IsInOrder script.setup) (take-length journal) prefix.order in (
+    let whole : IsFreePrefix script journal = free-prefix script journal is legal prefixes in (
       elim (some-announcement (announcement script journal) script.setup.threads) [
         | inl none ↦ verdict-ended script journal rule tame legal none
         | inr going ↦
-            let none = verdict-going script journal rule tame legal going (free-after script journal is legal prefixes order going) in
+            let none = verdict-going script journal rule tame legal going (free-after script journal is legal prefixes whole.order going) in
             absurd (false≢true (sym (ap is_some none) ∙ run.stops))
       ],
-      λ k entry at. prefix.plain k entry (slice_get_within journal k entry at) at,
+      whole.plain,
     )

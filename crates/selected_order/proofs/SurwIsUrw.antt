@@ -1,6 +1,5 @@
 -- The run under SURW is the run under URW, where every event is selected and nothing blocks.
-use Rattle.std.proofs.Common.{◌≡◌, ℕ, zero, suc, ◌+◌, ◌<◌, ◌≤◌, Bool, false, List, [], ◌∷◌, length, take, get_or, Option, None, Some, IsSome, Result, Ok, Err, refl, ap, sym, subst, ◌∙◌, arith}
-use Rattle.std.proofs.Math.Seq.{take-length}
+use Rattle.std.proofs.Common.{◌≡◌, ℕ, Bool, false, List, [], ◌∷◌, ◌++◌, length, take, slice_get, get_or, Option, None, Some, IsSome, Result, Ok, Err, refl, ap, sym, subst, ◌∙◌, arith}
 use Rattle.std.proofs.lemmas.Option.{slice_get_within}
 use Rattle.std.specs.Option.{option_map}
 use Rattle.seed_draws.specs.declared.draw_fault.DrawFault.{DrawFault}
@@ -21,12 +20,12 @@ use Rattle.run_rules.specs.Setup.{Setup, Script}
 use Rattle.run_rules.specs.SurwChoice.{surw_choice}
 use Rattle.run_rules.specs.UrwChoice.{urw_bounds_at, urw_choice}
 use Rattle.run_rules.specs.Verdict.{first_miscounted, wrong_count, end_of_threads, step_limit, deadlock, refusal, first_of, verdict_at, miscount}
-use Rattle.run_rules.proofs.Prefixes.{AtEach, IsNext, next-at, each-prefix}
+use Rattle.run_rules.proofs.Prefixes.{AtEach, at-prefix, at-whole, each-prefix}
 use Rattle.run_rules.proofs.RunPrefixes.{GoesOnAfter, prefixes-going, going-prefixes}
 use Rattle.run_rules.proofs.Scripts.{legal-prefix}
 use Rattle.run_rules.proofs.Verdicts.{grant-parts, verdict-none}
 use Rattle.run_rules.proofs.WrongCounts.{none-miscounted}
-use Rattle.selected_order.specs.SurwIsUrw.{SurwIsUrw, setup_under, under}
+use Rattle.selected_order.specs.SurwIsUrw.{SurwIsUrw, setup_under, script_under}
 use Rattle.selected_order.proofs.EndsInOrder.{choice-is}
 use Rattle.selected_order.proofs.FreeChoice.{other-answers}
 use Rattle.selected_order.proofs.NoDeadlock.{no-deadlock}
@@ -93,44 +92,34 @@ same-at script journal is legal prefixes step counted going =
     choice-same script journal is.every legal step counted going is.selected is.other
     (other-answers script.setup (position_of script journal) is.never (no-deadlock script journal legal prefixes) going)
 
-step-next : (script : Script) (journal : List Entry) (k : ℕ) → IsSame script → IsLegal script journal → AtEach (GoesOnAfter script) journal
-    → k < length journal → IsStepwise script (take k journal) → IsStepwise script (take (suc k) journal)
-step-next script journal k is legal prefixes lt step =
+step-next : (script : Script) (journal : List Entry) → IsSame script → IsLegal script journal → AtEach (GoesOnAfter script) journal → (k : ℕ) (entry : Entry)
+    → slice_get journal k ≡ Some entry → IsStepwise script (take k journal) → IsStepwise script (take k journal ++ entry ∷ [])
+step-next script journal is legal prefixes k entry at step =
     let setup : Setup = script.setup in
     let prefix : List Entry = take k journal in
     let x : Position = position_of script prefix in
-    let next : IsNext journal k = next-at journal k lt in
-    let entry : Entry = next.item in
-    let goes = prefixes k entry next.there in
+    let goes = prefixes k entry at in
     let parts = verdict-none setup x goes.going in
     let counted = none-counted setup x is.rule parts.0 in
     let before : IsLegal script prefix = legal-prefix script journal k legal in
     let same = same-at script prefix is before (each-prefix (GoesOnAfter script) journal k prefixes) step counted parts.3 in
     let free = urw-free setup x entry.thread entry.forced (sym same ∙ sym (choice-is setup x is.rule) ∙ goes.chosen) in
-    let one : k + 1 ≡ suc k = omega arith in
-    subst (IsStepwise script) (sym next.cut ∙ ap (λ n. take n journal) one)
-    (stepwise-more script prefix entry is.every before counted (legal k entry next.there).announced free step)
-
-step-at : (script : Script) (journal : List Entry) (k : ℕ) → IsSame script → IsLegal script journal → AtEach (GoesOnAfter script) journal
-    → k ≤ length journal → IsStepwise script (take k journal)
-step-at script journal zero is legal prefixes within = stepwise-none script
-step-at script journal (suc k) is legal prefixes within =
-    step-next script journal k is legal prefixes (omega (arith, within)) (step-at script journal k is legal prefixes (omega (arith, within)))
+    stepwise-more script prefix entry is.every before counted (legal k entry at).announced free step
 
 -- the rule is no part of what is legal
-pub legal-under : (script : Script) (rule other : Rule) (journal : List Entry) → IsLegal (under rule script) journal → IsLegal (under other script) journal
+pub legal-under : (script : Script) (rule other : Rule) (journal : List Entry) → IsLegal (script_under rule script) journal → IsLegal (script_under other script) journal
 legal-under script rule other journal legal k entry at =
     let next = legal k entry at in
     record { announced = next.announced; enabled = next.enabled; replied = next.replied }
 
-legal-again : (script : Script) (rule : Rule) (journal : List Entry) → IsLegal (under rule script) journal → IsLegal script journal
+legal-again : (script : Script) (rule : Rule) (journal : List Entry) → IsLegal (script_under rule script) journal → IsLegal script journal
 legal-again script rule journal legal k entry at =
     let next = legal k entry at in
     record { announced = next.announced; enabled = next.enabled; replied = next.replied }
 
 -- after each prefix the run under URW goes on with the same entry
 urw-prefixes : (script : Script) (journal : List Entry) → IsSame script → IsLegal script journal → AtEach (GoesOnAfter script) journal
-    → AtEach (GoesOnAfter (under Urw script)) journal
+    → AtEach (GoesOnAfter (script_under Urw script)) journal
 unfolding position_of
 urw-prefixes script journal is legal prefixes k entry at =
     let setup : Setup = script.setup in
@@ -138,7 +127,8 @@ urw-prefixes script journal is legal prefixes k entry at =
     let x : Position = position_of script prefix in
     let goes = prefixes k entry at in
     let parts = verdict-none setup x goes.going in
-    let step : IsStepwise script prefix = step-at script journal k is legal prefixes (omega (arith, slice_get_within journal k entry at)) in
+    let step : IsStepwise script prefix =
+    at-prefix (IsStepwise script) journal (stepwise-none script) (step-next script journal is legal prefixes) k (omega (arith, slice_get_within journal k entry at)) in
     let same = same-at script prefix is (legal-prefix script journal k legal) (each-prefix (GoesOnAfter script) journal k prefixes) step in
     record {
       going = sym (verdict-same setup x is.rule same) ∙ goes.going;
@@ -148,7 +138,7 @@ urw-prefixes script journal is legal prefixes k entry at =
 pub surw-is-urw : SurwIsUrw
 unfolding position_of
 surw-is-urw plain counted selected other never journal every free run =
-    let script : Script = under Surw plain in
+    let script : Script = script_under Surw plain in
     let is : IsSame script = record {
       rule = refl;
       every = record { counted = counted; every = every; free = λ journal legal. free journal (legal-again plain Surw journal legal) };
@@ -159,12 +149,12 @@ surw-is-urw plain counted selected other never journal every free run =
     let legal : IsLegal script journal = run.legal in
     let prefixes : AtEach (GoesOnAfter script) journal = going-prefixes script journal legal run.going in
     let step : IsStepwise script journal =
-    subst (IsStepwise script) (take-length journal) (step-at script journal (length journal) is legal prefixes (omega arith)) in
+    at-whole (IsStepwise script) journal (stepwise-none script) (step-next script journal is legal prefixes) in
     let same = verdict-same script.setup (position_of script journal) refl (same-at script journal is legal prefixes step) in
-    let again : IsLegal (under Urw plain) journal = legal-under plain Surw Urw journal legal in (
+    let again : IsLegal (script_under Urw plain) journal = legal-under plain Surw Urw journal legal in (
       record {
         legal = again;
-        going = prefixes-going (under Urw plain) journal again (urw-prefixes script journal is legal prefixes);
+        going = prefixes-going (script_under Urw plain) journal again (urw-prefixes script journal is legal prefixes);
         stops = subst (λ (v : Option Verdict). IsSome v) same run.stops;
       },
       same,

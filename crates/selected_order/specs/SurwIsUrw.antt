@@ -16,8 +16,8 @@ use Rattle.selected_order.specs.SurwScript.{IsNeverBlocked}
 abbrev pub setup_under : Rule → Setup → Setup
 setup_under rule setup = record setup { rule = rule }
 
-abbrev pub under : Rule → Script → Script
-under rule script = record script { setup = setup_under rule script.setup }
+abbrev pub script_under : Rule → Script → Script
+script_under rule script = record script { setup = setup_under rule script.setup }
 
 -- the verdict under a rule after a journal
 abbrev pub verdict_under : Rule → Script → List Entry → Option Verdict
@@ -26,8 +26,8 @@ verdict_under rule script journal = verdict_at (setup_under rule script.setup) (
 -- the run under SURW is the run under URW, with the same verdict
 abbrev pub SurwIsUrwOf : Script → Type 0
 SurwIsUrwOf script = (journal : List Entry) → script.setup.selection ≡ Every ∷ [] → IsNeverBlocked script
-    → IsRunJournal (under Surw script) journal
-    → IsRunJournal (under Urw script) journal × (verdict_under Surw script journal ≡ verdict_under Urw script journal)
+    → IsRunJournal (script_under Surw script) journal
+    → IsRunJournal (script_under Urw script) journal × (verdict_under Surw script journal ≡ verdict_under Urw script journal)
 
 -- the other source has to answer, since URW doesn't ask it
 abbrev pub SurwIsUrw : Type 0
