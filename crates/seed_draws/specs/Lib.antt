@@ -2,6 +2,10 @@ pub mod Answers
 pub mod AnyDraws
 pub mod AnyLaws
 pub mod Falling
+pub mod Seeded
+pub mod SeededLaws
+pub mod SeededSource
+pub mod Share
 pub mod Tape
 pub mod TapeLaws
 pub mod TapeSource
