@@ -3,7 +3,8 @@ use Rattle.std.proofs.Common.{◌≡◌, ℕ, suc, ◌+◌, ◌<◌, ◌≤◌, 
 use Rattle.std.proofs.lemmas.Bool.{cases_lt, le-ltb, lt-ltb}
 use Rattle.rand_pcg.specs.Lcg.{Lcg}
 use Rattle.rand_pcg.specs.Pcg.{pcg64}
-use Rattle.seed_draws.specs.Seeded.{Counted, Past, generator_at, progress_by, progress_after, greatest}
+use Rattle.surw_base.specs.Number.{greatest}
+use Rattle.seed_draws.specs.Seeded.{Counted, Past, generator_at, progress_by, progress_after}
 
 generator_at-suc : (seed stream words : ℕ) → generator_at seed stream (suc words) ≡ (pcg64 (generator_at seed stream words)).1
 unfolding generator_at

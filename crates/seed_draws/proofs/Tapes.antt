@@ -1,14 +1,14 @@
 -- What tapes answer.
-use Rattle.std.proofs.Common.{◌≡◌, ℕ, zero, suc, ◌+◌, ◌%◌, ◌<◌, is_ok, ltb, true, cond, List, [], ◌∷◌, length, drop, get_or, Ok, Err, refl, sym, ap, ◌∙◌, arith}
+use Rattle.std.proofs.Common.{◌≡◌, ℕ, zero, suc, ◌+◌, ◌<◌, ltb, true, cond, List, length, drop, get_or, Ok, Err, refl, sym, ap, ◌∙◌, arith}
 use Rattle.std.proofs.lemmas.Bool.{lt-ltb}
 use Rattle.std.proofs.lemmas.List.{drop_more, drop_all}
 use Rattle.seed_draws.specs.declared.draw_fault.DrawFault.TheVariants.{Short, Large}
 use Rattle.seed_draws.specs.Answers.{IsSource, NeverRefuses, answers, source_of, with_first}
 use Rattle.seed_draws.specs.Falling.{falling}
-use Rattle.seed_draws.specs.Tape.{Tape, next_entry, one_taken, strict_answer, strict_after, loose_answer, loose_after}
+use Rattle.seed_draws.specs.Tape.{Tape, one_taken, strict_answer, strict_after}
 use Rattle.seed_draws.specs.TapeLaws.{strict_below, loose_below}
 use Rattle.seed_draws.specs.TapeSource.{loose_draws, loose_tape, strict_draws, strict_tape}
-use Rattle.seed_draws.proofs.Asked.{is-source}
+use Rattle.seed_draws.proofs.Asked.{is-source, never-refuses}
 
 pub strict-source : (entries : List ℕ) → IsSource (strict_tape entries).answers
 strict-source entries = is-source strict_draws strict_below (record { entries = entries; taken = 0 })
@@ -16,16 +16,10 @@ strict-source entries = is-source strict_draws strict_below (record { entries = 
 pub loose-source : (entries : List ℕ) → IsSource (loose_tape entries).answers
 loose-source entries = is-source loose_draws loose_below (record { entries = entries; taken = 0 })
 
-loose-answers : (tape : Tape) (bounds : List ℕ) → (draws : List ℕ) × (answers loose_draws tape bounds ≡ Ok draws)
-unfolding answers
-loose-answers tape [] = ([], refl)
-loose-answers tape (bound ∷ bounds) =
-    let rest = loose-answers (loose_after tape bound) bounds in
-    (next_entry tape % bound ∷ rest.0, ap (with_first (loose_answer tape bound)) rest.1)
-
 -- a loose tape never refuses, in whatever state
 pub loose-never : (tape : Tape) → NeverRefuses (source_of loose_draws tape).answers
-loose-never tape bounds some = ap is_ok (loose-answers tape bounds).1
+loose-never tape =
+    never-refuses loose_draws (λ _. Unit {0}) (record { answered = λ source bound is. refl; stays = λ source bound is. tt }) tape tt
 
 -- a strict tape gives an entry that is below its bound
 strict-next : (entries : List ℕ) (taken bound : ℕ) → taken < length entries → get_or entries taken 0 < bound

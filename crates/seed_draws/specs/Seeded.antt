@@ -1,14 +1,11 @@
 -- Seeded sources: where the generator began, how far it is, and how many draws were bent.
-use Rattle.std.specs.Prelude.{ℕ, zero, suc, ◌+◌, ◌/◌, ◌%◌, ◌^◌, ◌-◌, ◌==◌, ◌&&◌, ltb, min, Bool, false, List, position, slice_index, Option, Some, None, Result, Ok, if◌then◌else◌}
+use Rattle.std.specs.Prelude.{ℕ, zero, suc, ◌+◌, ◌/◌, ◌%◌, ◌-◌, ◌==◌, ◌&&◌, ltb, min, Bool, false, List, position, slice_index, Option, Some, None, Result, Ok, if◌then◌else◌}
 use Rattle.rand_core.specs.Steps.{first_words}
 use Rattle.rand_pcg.specs.Lcg.{Lcg, started, increment_of}
 use Rattle.rand_pcg.specs.Pcg.{pcg64, multiplier_128}
+use Rattle.surw_base.specs.Number.{greatest}
 use Rattle.seed_draws.specs.declared.draw_fault.DrawFault.{DrawFault}
 use Rattle.seed_draws.specs.Share.{share, is_accepted}
-
--- the greatest number: where a count stays
-abbrev pub greatest : ℕ
-greatest = 2 ^ 64 - 1
 
 -- so many words were taken, fewer than the greatest number; or at least as many, and the generator is this
 pub data Progress : Type 0 where

@@ -4,7 +4,7 @@ use Rattle.std.specs.List.{position}
 use Rattle.std.proofs.lemmas.Bool.{cases_eq, ltb-true}
 use Rattle.std.proofs.lemmas.List.Quantifiers.{position-Some}
 use Rattle.seed_draws.specs.Share.{is_accepted, share}
-use Rattle.seed_draws.specs.Seeded.{Progress, Counted, Past, SeededState, is_same_progress, is_same_seeded, next_words, drawn, drawn_at, seeded_answer, seeded_after}
+use Rattle.seed_draws.specs.Seeded.{Progress, Counted, SeededState, is_same_progress, is_same_seeded, next_words, drawn, drawn_at, seeded_answer, seeded_after}
 
 draw_below : (bound word : ℕ) → is_accepted bound word ≡ true → word / share bound < bound
 draw_below bound word accepted = let less : word < share bound * bound = ltb-true word (share bound * bound) accepted in search (rules, arith, less)

@@ -26,7 +26,8 @@ pub struct Seeded {
 
 impl Model for Seeded {
     ghost use Rattle.std.specs.Prelude.{◌≡◌, ◌<◌};
-    ghost use Rattle.seed_draws.specs.Seeded.{SeededState, generator_at, progress_by, greatest};
+    ghost use Rattle.surw_base.specs.Number.{greatest};
+    ghost use Rattle.seed_draws.specs.Seeded.{SeededState, generator_at, progress_by};
 
     ghost Value = { SeededState };
 

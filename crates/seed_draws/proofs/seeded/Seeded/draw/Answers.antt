@@ -1,6 +1,6 @@
 use Rattle.std.proofs.Common.{◌≡◌, ◌≤◌, ◌<◌, ℕ, ◌+◌, ◌-◌, ◌/◌, ◌%◌, true, false, get_or, ap, sym, ◌∙◌, subst, arith}
-use Rattle.seed_draws.specs.Share.{is_accepted, share}
-use Rattle.seed_draws.specs.Seeded.{SeededState, after_bent, after_word, after_words, drawn, next_words, tries, word_of}
+use Rattle.seed_draws.specs.Share.{is_accepted}
+use Rattle.seed_draws.specs.Seeded.{SeededState, after_bent, after_word, after_words, next_words, tries, word_of}
 use Rattle.seed_draws.proofs.Shares.{accepted, left_over, share-some}
 use Rattle.seed_draws.proofs.Drawn.{NoneBefore, after_none, after_one, before-more, drawn-found, drawn-none, next_word}
 use Rattle.seed_draws.proofs.seeded.Seeded.draw.Goals as goal

@@ -1,4 +1,4 @@
-use Rattle.std.proofs.Common.{◌≡◌, ℕ, ◌<◌, ◌-◌, get_or}
+use Rattle.std.proofs.Common.{◌≡◌, ◌<◌, ◌-◌, get_or}
 use Rattle.seed_draws.specs.Seeded.{after_words, next_words}
 use Rattle.seed_draws.proofs.Drawn.{NoneBefore}
 use Rattle.seed_draws.proofs.seeded.Seeded.draw.Given as goal

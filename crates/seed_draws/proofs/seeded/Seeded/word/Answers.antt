@@ -1,7 +1,8 @@
 use Rattle.std.proofs.Common.{◌≡◌, ℕ, ◌+◌, ◌<◌, ◌∙◌, ap, arith}
 use Rattle.std.proofs.lemmas.Grind.{common_steps}
 use Rattle.rand_pcg.specs.Lcg.{Lcg}
-use Rattle.seed_draws.specs.Seeded.{SeededState, Progress, greatest, after_word}
+use Rattle.surw_base.specs.Number.{greatest}
+use Rattle.seed_draws.specs.Seeded.{SeededState, Progress, after_word}
 use Rattle.seed_draws.proofs.Progress.{generator_at-more, progress-more}
 use Rattle.seed_draws.proofs.seeded.Seeded.word.Goals as goal
 

@@ -1,4 +1,4 @@
-use Rattle.std.proofs.Common.{◌≡◌, ℕ, ◌<◌, ap, sym, subst}
+use Rattle.std.proofs.Common.{ℕ, ◌<◌, ap, sym, subst}
 use Rattle.seed_draws.specs.Seeded.{SeededState}
 use Rattle.seed_draws.specs.SeededLaws.{drawn_is_below}
 use Rattle.seed_draws.proofs.seeded.SeededDraws.below.Goals as goal
