@@ -14,8 +14,8 @@ use Rattle.draw_split.specs.Bag.{pick, less_one}
 use Rattle.draw_split.specs.Named.{named_order}
 use Rattle.draw_split.specs.Rooms.{Fits, IsInRoom}
 use Rattle.draw_split.proofs.Bag.{bag-picks, bag-times, sum-less_one}
-use Rattle.draw_split.proofs.Joined.{fits-head, fits-tail, fits-nil}
-use Rattle.draw_split.proofs.Named.{after, none-left}
+use Rattle.draw_split.proofs.JoinedDraws.{fits-head, fits-tail, fits-nil}
+use Rattle.draw_split.proofs.NamedOrders.{after, none-left}
 use Rattle.draw_split.proofs.Rooms.{room-nil, room-cons}
 
 -- sums over lists that are made of others

@@ -7,8 +7,8 @@ use Rattle.draw_split.specs.Laws.{ExactlyOne, Gives, KeepsOffsets, EachIsNamed, 
 use Rattle.draw_split.specs.Named.{named_offsets}
 use Rattle.draw_split.specs.Rooms.{Fits, IsInRoom}
 use Rattle.draw_split.proofs.AllDraws.{listed-once, listed-rooms, listed-pairs, named-many}
-use Rattle.draw_split.proofs.Joined.{joined, joins-back, same-draws, by_thread, names-joined, names-one}
-use Rattle.draw_split.proofs.Named.{good, draw_list, named-fits, named-room}
+use Rattle.draw_split.proofs.JoinedDraws.{joined, joins-back, same-draws, by_thread, names-joined, names-one}
+use Rattle.draw_split.proofs.NamedOrders.{good, draw_list, named-fits, named-room}
 
 pub each-named : EachIsNamed
 each-named counts draws is = (named-fits counts draws (good counts draws is), named-room counts draws (good counts draws is))

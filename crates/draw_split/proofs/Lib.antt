@@ -1,8 +1,8 @@
 pub mod AllDraws
 pub mod Bag
 pub mod Bijection
-pub mod Joined
+pub mod JoinedDraws
 pub mod Lists
-pub mod Named
-pub mod Refused
+pub mod NamedOrders
+pub mod Refusals
 pub mod Rooms

@@ -1,4 +1,5 @@
 -- Steps on lists that the kit has no lemma for.
+use Rattle.surw_base.specs.declared.limits.TheConstants.{THREADS}
 use Rattle.std.proofs.Common.{◌≡◌, ℕ, zero, suc, ◌+◌, ◌-◌, ◌≤◌, List, [], ◌∷◌, ◌++◌, length, get_or, take, replicate, refl, ap, ◌∙◌, arith}
 use Rattle.std.proofs.lemmas.List.{drop_all, append-nil, append_assoc, take_all, replicate_more, replicate-append-replicate, length-replicate}
 use Rattle.std.proofs.lemmas.List.Elements.{All-append, All-replicate}
@@ -22,12 +23,12 @@ missing-more now before m n le e =
     ∙ ap (λ n. before ++ replicate n []) more
 
 -- empty lists with those that are missing
-pub padded-none : (lists : List (List ℕ)) (n : ℕ) → n ≤ 16 → lists ≡ replicate n [] → padded lists ≡ replicate 16 []
+pub padded-none : (lists : List (List ℕ)) (n : ℕ) → n ≤ THREADS → lists ≡ replicate n [] → padded lists ≡ replicate THREADS []
 padded-none lists n le e =
-    let all : n + (16 - n) ≡ 16 = omega arith in
+    let all : n + (THREADS - n) ≡ THREADS = omega arith in
     ap padded e
-    ∙ ap (λ m. replicate n [] ++ replicate (16 - m) []) (length-replicate {A = List ℕ} n [])
-    ∙ replicate-append-replicate n (16 - n) []
+    ∙ ap (λ m. replicate n [] ++ replicate (THREADS - m) []) (length-replicate {A = List ℕ} n [])
+    ∙ replicate-append-replicate n (THREADS - n) []
     ∙ ap (λ m. replicate {A = List ℕ} m []) all
 
 -- lists that are no longer than a number are so with those that are missing
@@ -35,7 +36,7 @@ pub All-padded : (most : ℕ) (lists : List (List ℕ)) → All (λ list. length
 All-padded most lists all =
     let P : List ℕ → Type 0 = λ list. length list ≤ most in
     let none : 0 ≤ most = omega arith in
-    All-append P lists (replicate (16 - length lists) []) all (All-replicate P (16 - length lists) [] none)
+    All-append P lists (replicate (THREADS - length lists) []) all (All-replicate P (THREADS - length lists) [] none)
 
 -- each list of empty ones is empty
 pub none-kept : (n thread : ℕ) → get_or {A = List ℕ} (replicate n []) thread [] ≡ []

@@ -114,7 +114,8 @@ pub fn draws_of(alloc: Global, counts: &[u32], split: &Split) -> Result<Vec<u64>
     requires order { length split.now.order ≤ STEPS }
     requires offsets { All (λ list. length list ≤ STEPS) split.now.offsets }
     ensures ok { IfOk result (λ draws. Names counts.now draws.items split.now) }
-    ensures only { (draws : List ℕ) → Names counts.now draws split.now → MatchResult result (λ v. v.items ≡ draws) (λ e. e ≡ JoinFault.OutOfMemory) }
+    ensures only { (draws : List ℕ) → Names counts.now draws split.now
+        → MatchResult result (λ v. v.items ≡ draws) (λ e. e ≡ JoinFault.OutOfMemory) }
     ensures refused { IfErr result (IsRefused counts.now split.now) }
 {
     checked(counts, split)?;

@@ -61,7 +61,8 @@ impl Split {
     // One place more in the order, with its offset.
     pub(crate) fn push(&mut self, thread: ThreadNo, offset: u32) -> Result<(), OutOfMemory>
         ensures order { OnOk result (self.new.order ≡ self.old.order ++ thread ∷ []) }
-        ensures offsets { OnOk result (self.new.offsets ≡ slice_set self.old.offsets thread (slice_index_or self.old.offsets thread [] ++ offset ∷ [])) }
+        ensures offsets { OnOk result
+            (self.new.offsets ≡ slice_set self.old.offsets thread (slice_index_or self.old.offsets thread [] ++ offset ∷ [])) }
         ensures lists { length self.old.offsets ≡ THREADS }
     {
         self.order.push(thread)?;

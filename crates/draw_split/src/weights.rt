@@ -8,7 +8,7 @@ use surw_base::{STEPS, THREADS, ThreadNo};
 /// list of the counts.
 #[derive(Debug, Drop)]
 pub struct Weights {
-    counts: ArrayVec<u32, 16>,
+    counts: ArrayVec<u32, THREADS>,
     sum: u64,
 }
 
@@ -41,6 +41,13 @@ impl Weights {
             sum += u64::from(*count);
         }
         Weights { counts: kept, sum }
+    }
+
+    /// The same counts. It takes no memory.
+    pub fn copy(&self) -> Weights
+        ensures { result ≡ self.now }
+    {
+        Weights::new(self.as_slice())
     }
 
     /// How many threads there are, at most `THREADS`.

@@ -7,7 +7,7 @@ use Rattle.std.specs.List.{range_with_len}
 use Rattle.draw_split.specs.Bag.{less_one, pick}
 use Rattle.draw_split.specs.Named.{named_order}
 use Rattle.draw_split.proofs.Bag.{placed, sum-less_one}
-use Rattle.draw_split.proofs.Named.{less_one-other, less_one-same, named_order-cons, named_order-nil, none-left}
+use Rattle.draw_split.proofs.NamedOrders.{less_one-other, less_one-same, named_order-cons, named_order-nil, none-left}
 use Rattle.seed_draws.proofs.Asked.{after_bounds-append}
 use Rattle.seed_draws.specs.Answers.{after_bounds, answers, unless_refused, with_first}
 use Rattle.seed_draws.specs.declared.draw_fault.DrawFault.{DrawFault}

@@ -2,8 +2,8 @@ use Rattle.std.proofs.Common.{◌≡◌, ◌-◌, ◌<◌, ◌≤◌, ℕ, List,
 use Rattle.std.proofs.lemmas.List.{get_or_read}
 use Rattle.std.proofs.lemmas.Result.{err_from_is_err_and}
 use Rattle.draw_split.specs.Bag.{pick, offset, less_one}
-use Rattle.draw_split.proofs.Joined.{join-next, names-all, names-one, next_offset}
-use Rattle.draw_split.proofs.Refused.{refused-only}
+use Rattle.draw_split.proofs.JoinedDraws.{join-next, names-all, names-one, next_offset}
+use Rattle.draw_split.proofs.Refusals.{refused-only}
 use Rattle.draw_split.proofs.joining.draws_of.Goals as goal
 
 pub returns-in_err-checked-clause-only : goal.returns-in_err-checked-clause-only

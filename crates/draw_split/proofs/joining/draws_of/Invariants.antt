@@ -1,4 +1,4 @@
-use Rattle.draw_split.proofs.Joined.{AreJoined}
+use Rattle.draw_split.proofs.JoinedDraws.{AreJoined}
 use Rattle.draw_split.proofs.joining.draws_of.Given as goal
 
 abbrev pub invariant-loop-thread : goal.invariant-loop-thread

@@ -1,13 +1,14 @@
+use Rattle.surw_base.specs.declared.limits.TheConstants.{THREADS}
 use Rattle.std.proofs.Common.{◌≡◌, ℕ, ◌<◌, List, [], get_or, length, ap, sym, subst, ◌∙◌, arith}
 use Rattle.draw_split.specs.Bag.{pick, offset}
 use Rattle.draw_split.proofs.Lists.{none-kept}
-use Rattle.draw_split.proofs.Named.{split-none, split-next, split-all, next-thread, next-few, names-long, names-fits, names-rooms}
+use Rattle.draw_split.proofs.NamedOrders.{split-none, split-next, split-all, next-thread, next-few, names-long, names-fits, names-rooms}
 use Rattle.draw_split.proofs.naming.order_of.Goals as goal
 
 pub loop-draw-init : goal.loop-draw-init
 loop-draw-init c =
     split-none _ _ _ _ c.in_ok-checked.ensures.ok c.new-left.ensures c.in_ok-split.ensures.order
-    (λ thread. ap (λ (l : List (List ℕ)). get_or l thread []) c.in_ok-split.ensures.offsets ∙ none-kept 16 thread)
+    (λ thread. ap (λ (l : List (List ℕ)). get_or l thread []) c.in_ok-split.ensures.offsets ∙ none-kept THREADS thread)
 
 pub take-requires : goal.take-requires
 take-requires c =
@@ -24,7 +25,7 @@ loop-draw-preserved c =
     let put : c.split_one-thread.result.1 ≡ offset c.loop-draw.left drawn =
     c.split_one-thread.ensures.offset ∙ ap (λ (l : List ℕ). offset l drawn) c.as_slice.ensures.same in
     let few = next-few _ _ _ _ _ c.loop-draw.invariant c.loop-draw-test.true in
-    let lists : length c.loop-draw.split.offsets ≡ 16 = c.in_ok-push.ensures.lists in
+    let lists : length c.loop-draw.split.offsets ≡ THREADS = c.in_ok-push.ensures.lists in
     split-next _ _ _ _ _ c.loop-draw.invariant c.loop-draw-test.true (omega (arith, few, lists, c.as_slice.ensures.threads))
     _ _ picked put _ c.take.ensures _ c.in_ok-push.ensures.order c.in_ok-push.ensures.offsets
 

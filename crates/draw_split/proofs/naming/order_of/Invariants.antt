@@ -1,4 +1,4 @@
-use Rattle.draw_split.proofs.Named.{AreSplit}
+use Rattle.draw_split.proofs.NamedOrders.{AreSplit}
 use Rattle.draw_split.proofs.naming.order_of.Given as goal
 
 abbrev pub invariant-loop-draw : goal.invariant-loop-draw

@@ -1,3 +1,4 @@
+use Rattle.surw_base.specs.declared.limits.TheConstants.{THREADS}
 use Rattle.std.proofs.Common.{◌≡◌, ℕ, ◌-◌, ◌≤◌, List, [], ◌∷◌, ◌++◌, map, length, replicate, ap, sym, ◌∙◌, arith, Vec, Global}
 use Rattle.std.proofs.lemmas.List.{map_push, length_push, length-map}
 use Rattle.draw_split.proofs.Lists.{missing-more}
@@ -21,6 +22,6 @@ pub returns-clause-offsets : goal.returns-clause-offsets
 returns-clause-offsets c =
     let items : Vec ℕ Global → List ℕ = λ v. v.items in
     let before : List (List ℕ) = map items c.args.offsets.items in
-    let end : c.loop-missing._missing ≡ 16 = omega (arith, c.loop-missing.auto._missing-end, c.loop-missing-test.false, c.len-missing.ensures, c.requires) in
+    let end : c.loop-missing._missing ≡ THREADS = omega (arith, c.loop-missing.auto._missing-end, c.loop-missing-test.false, c.len-missing.ensures, c.requires) in
     c.loop-missing.invariant.1
     ∙ (λ i. before ++ replicate (end i - sym (length-map c.args.offsets.items items) i) [])

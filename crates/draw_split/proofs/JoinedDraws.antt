@@ -8,7 +8,7 @@ use Rattle.draw_split.specs.Named.{named_order, named_offsets, Names}
 use Rattle.draw_split.specs.Rooms.{Fits, IsInRoom, AreInRooms}
 use Rattle.draw_split.specs.Split.{Parts}
 use Rattle.draw_split.proofs.Bag.{IsAt, placed, pick-at, offset-at, at-below, only-at}
-use Rattle.draw_split.proofs.Named.{AreGood, after, good, good-none, good-head, good-tail, good-nil, good-cons, draw_list, named_order-cons, named_order-nil, named_offsets-same, named_offsets-other, named_offsets-nil, less_one-same, less_one-other, times-same, times-other}
+use Rattle.draw_split.proofs.NamedOrders.{AreGood, after, good, good-none, good-head, good-tail, good-nil, good-cons, draw_list, named_order-cons, named_order-nil, named_offsets-same, named_offsets-other, named_offsets-nil, less_one-same, less_one-other, times-same, times-other}
 use Rattle.draw_split.proofs.Rooms.{room-first, room-rest, first-rest}
 
 -- the offsets of each thread, without the first of one

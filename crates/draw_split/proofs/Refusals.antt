@@ -5,7 +5,7 @@ use Rattle.draw_split.specs.Named.{Names}
 use Rattle.draw_split.specs.Split.{Parts}
 use Rattle.draw_split.specs.declared.joining.JoinFault.{JoinFault}
 use Rattle.draw_split.specs.declared.joining.JoinFault.TheVariants.{Miscount, Offsets, Offset, OutOfMemory}
-use Rattle.draw_split.proofs.Named.{names-fits, names-rooms}
+use Rattle.draw_split.proofs.NamedOrders.{names-fits, names-rooms}
 
 pub refused-only : (counts : List ℕ) (split : Parts) (fault : JoinFault) → IsRefused counts split fault → (draws : List ℕ) → Names counts draws split → fault ≡ OutOfMemory
 refused-only counts split (Miscount thread counted seen) is draws names =
