@@ -7,7 +7,7 @@ use Rattle.walk_rules.specs.Pct.{higher, highest, lowered, pct, pct_asked, pct_f
 use Rattle.walk_rules.specs.Seen.{able_threads, is_able, seen_of}
 use Rattle.walk_rules.specs.State.{Memory, WalkState}
 use Rattle.walk_rules.specs.Walk.{GrantsAble, IsStrategy}
-use Rattle.walk_rules.proofs.Able.{able-place}
+use Rattle.walk_rules.proofs.AbleThreads.{able-place}
 
 either-holds : (P : ℕ → Type 0) (b : Bool) (x y : ℕ) → P x → P y → P (cond b x y)
 either-holds P true x y one other = one

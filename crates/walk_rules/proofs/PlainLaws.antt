@@ -5,8 +5,8 @@ use Rattle.walk_rules.specs.declared.seen.Seen.{Seen}
 use Rattle.walk_rules.specs.State.{WalkState}
 use Rattle.walk_rules.specs.Plain.{plain, plain_bound, plain_thread}
 use Rattle.walk_rules.specs.Walk.{CanPick, GrantsAble, IsStrategy}
-use Rattle.walk_rules.proofs.Able.{able-place}
-use Rattle.walk_rules.proofs.Grants.{granted-able, granted-ok}
+use Rattle.walk_rules.proofs.AbleThreads.{able-place}
+use Rattle.walk_rules.proofs.DrawnGrants.{granted-able, granted-ok}
 
 plain-able : (walk : WalkState) (view : List Seen) (selected other : Answering) → IsSource selected → IsSource other → CanPick plain walk view
     → GrantsAble view (plain.pick walk view selected other).picked

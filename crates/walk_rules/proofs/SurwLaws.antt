@@ -12,7 +12,7 @@ use Rattle.walk_rules.specs.declared.seen.Seen.{Seen}
 use Rattle.walk_rules.specs.Seen.{able_threads, is_able, is_chosen, seen_of}
 use Rattle.walk_rules.specs.Surw.{candidate_at, candidate_bounds, candidates, intention_bounds, intention_by, is_forced, is_intended, is_narrow, narrow, surw, surw_picked}
 use Rattle.walk_rules.specs.Walk.{GrantsAble, IsStrategy}
-use Rattle.walk_rules.proofs.Able.{able-listed, able-place}
+use Rattle.walk_rules.proofs.AbleThreads.{able-listed, able-place}
 
 both-first : (a b : Bool) → (a && b) ≡ true → a ≡ true
 both-first true b is = refl

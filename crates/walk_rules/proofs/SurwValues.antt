@@ -10,6 +10,7 @@ use Rattle.walk_rules.specs.declared.seen.Seen.TheVariants.{Over, Held, Able}
 use Rattle.walk_rules.specs.Seen.{able_threads}
 use Rattle.walk_rules.specs.State.{WalkState, new_memory}
 use Rattle.walk_rules.specs.Surw.{narrow, surw_pick}
+use Rattle.walk_rules.specs.Walk.{kept_after}
 use Rattle.draw_split.specs.Bag.{bag, pick}
 
 abbrev strict : List ℕ → Answering
@@ -48,3 +49,11 @@ forced : surw_pick (walk (Some 1)) (Able true ∷ Held true ∷ Over ∷ []) (st
     ≡ record { selected_bounds = []; other_bounds = 1 ∷ []; picked = picked.Grant 0 true; memory = record new_memory { intended = Some 1 } }
 unfolding narrow answers able_threads bag pick
 forced = refl
+
+-- after it thread 1 is still intended
+kept : kept_after (record new_memory { intended = Some 1 }) true true ≡ record new_memory { intended = Some 1 }
+kept = refl
+
+-- after its own selected step it isn't
+ended : kept_after (record new_memory { intended = Some 1 }) true false ≡ new_memory
+ended = refl

@@ -5,9 +5,9 @@ use Rattle.walk_rules.specs.declared.seen.Seen.{Seen}
 use Rattle.walk_rules.specs.State.{WalkState}
 use Rattle.walk_rules.specs.Urw.{urw, urw_bound, urw_thread}
 use Rattle.walk_rules.specs.Walk.{CanPick, GrantsAble, IsStrategy}
-use Rattle.walk_rules.proofs.Able.{kept-pick}
-use Rattle.walk_rules.proofs.Grants.{granted-able, granted-ok}
-use Rattle.walk_rules.proofs.Wrong.{urw-some}
+use Rattle.walk_rules.proofs.AbleThreads.{kept-pick}
+use Rattle.walk_rules.proofs.DrawnGrants.{granted-able, granted-ok}
+use Rattle.walk_rules.proofs.WrongThreads.{urw-some}
 
 urw-able : (walk : WalkState) (view : List Seen) (selected other : Answering) → IsSource selected → IsSource other → CanPick urw walk view
     → GrantsAble view (urw.pick walk view selected other).picked

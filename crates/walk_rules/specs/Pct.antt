@@ -1,17 +1,22 @@
 -- PCT: at the first pick each thread gets a priority by selected draws, and steps are drawn at which the able thread of
 -- highest priority gets a low one; the able thread of highest priority takes each step.
-use Rattle.std.specs.Prelude.{ℕ, Result, Ok, Err, ◌+◌, ◌-◌, ◌==◌, ltb, false, List, [], ◌∷◌, ◌++◌, drop, length, map, replicate, slice_index, slice_set, sum, take, if◌then◌else◌}
+use Rattle.std.specs.Prelude.{ℕ, Result, Ok, Err, ◌+◌, ◌-◌, ◌≤◌, ◌==◌, ltb, false, List, [], ◌∷◌, ◌++◌, drop, length, map, replicate, slice_index, slice_set, sum, take, if◌then◌else◌}
 use Rattle.std.specs.List.{range_with_len}
 use Rattle.draw_split.specs.Named.{named_order}
 use Rattle.seed_draws.specs.declared.draw_fault.DrawFault.{DrawFault}
 use Rattle.seed_draws.specs.Answers.{Answering}
 use Rattle.seed_draws.specs.Falling.{falling}
+use Rattle.surw_base.specs.declared.limits.TheConstants.{DEPTH}
 use Rattle.walk_rules.specs.declared.picked.Picked.{Picked}
 use Rattle.walk_rules.specs.declared.picked.Picked.TheVariants.{Grant, Stop}
 use Rattle.walk_rules.specs.declared.seen.Seen.{Seen}
 use Rattle.walk_rules.specs.Seen.{able_threads}
 use Rattle.walk_rules.specs.State.{Memory, WalkState, new_memory}
 use Rattle.walk_rules.specs.Strategy.{OnePick, Strategy}
+
+-- the depth is one more than there are change points
+abbrev pub IsWithinDepth : ℕ → Type 0
+IsWithinDepth depth = (1 ≤ depth) × (depth ≤ DEPTH)
 
 -- what is asked for the change points: nothing where there are no events
 abbrev pub change_bounds : ℕ → ℕ → List ℕ
@@ -26,11 +31,14 @@ unfoldable pub place_of : List ℕ → ℕ → ℕ
 place_of [] thread = 0
 place_of (first ∷ rest) thread = if first == thread then 0 else place_of rest thread + 1
 
--- the first priorities and the change points: the thread at place j of the order has priority d - 1 + t - j
+-- the first priorities: of t threads, the one at place j of the order has priority depth - 1 + t - j
+abbrev pub first_priorities : ℕ → ℕ → List ℕ → List ℕ
+first_priorities depth threads order = map (λ thread. depth - 1 + threads - place_of order thread) (range_with_len 0 threads)
+
+-- with the change points
 unfoldable pub first_memory : ℕ → List ℕ → List ℕ → Memory
 first_memory depth counts draws = record new_memory {
-  priorities = map (λ thread. depth - 1 + length counts - place_of (named_order (replicate (length counts) 1) (take (length counts) draws)) thread)
-      (range_with_len 0 (length counts));
+  priorities = first_priorities depth (length counts) (named_order (replicate (length counts) 1) (take (length counts) draws));
   changes = drop (length counts) draws;
 }
 

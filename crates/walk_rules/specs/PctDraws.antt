@@ -20,4 +20,5 @@ draws_found threads (Err fault) = Err fault
 
 -- what is kept at a pick, by the draws of a source, or its refusal
 abbrev pub found_from : {S : Type 0} → Ghosts S → ℕ → ℕ → List ℕ → Ranked → S → Result Memory DrawFault
-found_from draws depth step counts ranks source = found_by depth step counts (memory_of ranks) (answers draws source (pct_asked depth step counts))
+found_from draws depth step counts ranks source =
+    found_by depth step counts (memory_of ranks) (answers draws source (pct_asked depth step counts))

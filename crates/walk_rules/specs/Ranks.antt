@@ -7,7 +7,8 @@ use Rattle.walk_rules.specs.declared.ranks.Ranks.TheInside.{Inside}
 -- each of these threads has a higher priority than those after it
 abbrev pub IsFalling : List ℕ → List ℕ → Type 0
 IsFalling priorities [] = Unit {0}
-IsFalling priorities (first ∷ rest) = ((other : ℕ) → 1 ≤ times other rest → slice_index priorities other < slice_index priorities first) × IsFalling priorities rest
+IsFalling priorities (first ∷ rest) =
+    ((other : ℕ) → 1 ≤ times other rest → slice_index priorities other < slice_index priorities first) × IsFalling priorities rest
 
 -- each of so many threads stands in this order once
 pub record IsOrder (threads : ℕ) (order : List ℕ) : Type 0 where

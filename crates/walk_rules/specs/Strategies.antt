@@ -1,4 +1,4 @@
--- The strategy of each rule. No other definition here looks at the rule.
+-- The strategy of each rule. Beside it only what limits PCT's depth and what a walk keeps for PCT look at the rule.
 use Rattle.std.specs.Prelude.{Bool, List}
 use Rattle.seed_draws.specs.declared.draws.Draws.{Ghosts}
 use Rattle.seed_draws.specs.Answers.{Answering, answers}
@@ -32,4 +32,5 @@ pick_by walk view selected other = (strategy walk.rule).pick walk view selected 
 
 -- and by the two sources themselves
 abbrev pub pick_from : {S O : Type 0} → Ghosts S → Ghosts O → WalkState → List Seen → S → O → OnePick
-pick_from selected_draws other_draws walk view selected other = pick_by walk view (answers selected_draws selected) (answers other_draws other)
+pick_from selected_draws other_draws walk view selected other =
+    pick_by walk view (answers selected_draws selected) (answers other_draws other)

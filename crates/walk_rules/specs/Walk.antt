@@ -10,13 +10,15 @@ use Rattle.walk_rules.specs.declared.rule.Rule.{Rule}
 use Rattle.walk_rules.specs.declared.rule.Rule.TheVariants.{Pct}
 use Rattle.walk_rules.specs.declared.seen.Seen.{Seen}
 use Rattle.walk_rules.specs.declared.seen.Seen.TheVariants.{Over, Held, Able}
+use Rattle.walk_rules.specs.Pct.{IsWithinDepth}
 use Rattle.walk_rules.specs.Seen.{able_threads, is_able, is_announcing, is_chosen, seen_of}
 use Rattle.walk_rules.specs.State.{Memory, WalkState}
 use Rattle.walk_rules.specs.Strategies.{counts_down, wants_every}
 use Rattle.walk_rules.specs.Strategy.{OnePick, Strategy}
 
 abbrev pub after_picked : WalkState → Memory → Picked → WalkState
-after_picked walk memory (picked.Grant thread forced) = record walk { memory = memory; waiting = Some (record { thread = thread; forced = forced }) }
+after_picked walk memory (picked.Grant thread forced) =
+    record walk { memory = memory; waiting = Some (record { thread = thread; forced = forced }) }
 after_picked walk memory (picked.Stop fault) = walk
 
 -- the walk after a pick: a grant waits for its step, and a refusal leaves the walk as it was
@@ -50,7 +52,8 @@ first_wrong left view = find (λ thread. is_wrong (slice_index left thread) (see
 abbrev pub wrong_by : Bool → List ℕ → List ℕ → List Seen → Option (ℕ × ℕ × ℕ)
 wrong_by counting counts left view =
     if counting
-    then option_map (λ thread. (thread, slice_index counts thread, slice_index counts thread - slice_index left thread)) (first_wrong left view)
+    then option_map (λ thread. (thread, slice_index counts thread, slice_index counts thread - slice_index left thread))
+    (first_wrong left view)
     else None
 
 abbrev pub wrong_of : WalkState → List Seen → Option (ℕ × ℕ × ℕ)
@@ -77,13 +80,16 @@ pub record CanPick (strategy : Strategy) (walk : WalkState) (view : List Seen) :
 
 -- what holds of every strategy: it grants a step only where all that it asked was answered, and then to an able thread
 pub record IsStrategy (strategy : Strategy) : Type 0 where
-  pub answered : (walk : WalkState) (view : List Seen) (selected other : Answering) (thread : ℕ) (forced : Bool) → IsSource selected → IsSource other
+  pub answered : (walk : WalkState) (view : List Seen) (selected other : Answering) (thread : ℕ) (forced : Bool)
+      → IsSource selected → IsSource other
       → (strategy.pick walk view selected other).picked ≡ picked.Grant thread forced
-      → IsOk (selected (strategy.pick walk view selected other).selected_bounds) × IsOk (other (strategy.pick walk view selected other).other_bounds)
-  pub able : (walk : WalkState) (view : List Seen) (selected other : Answering) → IsSource selected → IsSource other → CanPick strategy walk view
+      → IsOk (selected (strategy.pick walk view selected other).selected_bounds)
+      × IsOk (other (strategy.pick walk view selected other).other_bounds)
+  pub able : (walk : WalkState) (view : List Seen) (selected other : Answering)
+      → IsSource selected → IsSource other → CanPick strategy walk view
       → GrantsAble view (strategy.pick walk view selected other).picked
 
--- the depth of PCT is from 1 to 16
+-- the depth of PCT is within its limits
 abbrev pub IsDepth : Rule → Type 0
-IsDepth (Pct depth) = (1 ≤ depth) × (depth ≤ 16)
+IsDepth (Pct depth) = IsWithinDepth depth
 IsDepth rule = Unit {0}

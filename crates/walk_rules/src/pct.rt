@@ -3,7 +3,7 @@ ghost use Rattle.draw_split.specs.Named.{named_order};
 ghost use Rattle.seed_draws.specs.Answers.{after_bounds, answers};
 ghost use Rattle.surw_base.specs.declared.limits.TheConstants.{STEPS, THREADS};
 ghost use Rattle.seed_draws.specs.Falling.{falling};
-ghost use Rattle.walk_rules.specs.Pct.{change_bounds, pct_asked, pct_bounds, pct_memory, pct_picked};
+ghost use Rattle.walk_rules.specs.Pct.{IsWithinDepth, change_bounds, pct_asked, pct_bounds, pct_memory, pct_picked};
 ghost use Rattle.walk_rules.specs.Ranked.{IsFresh, IsReadyFor};
 ghost use Rattle.walk_rules.specs.PctDraws.{draws_found, found_from, order_found};
 ghost use Rattle.walk_rules.specs.State.{memory_of};
@@ -27,7 +27,7 @@ pub(crate) fn pick<S: Draws>(
     view: &Announced,
     selected: &mut S,
 ) -> Picked
-    requires depth { (1 ≤ depth) × (depth ≤ 16) }
+    requires depth { IsWithinDepth depth }
     requires room { step < STEPS }
     requires threads { ranks.old.threads ≡ length counts.now }
     requires each { length view.now ≡ length counts.now }
@@ -35,7 +35,8 @@ pub(crate) fn pick<S: Draws>(
     requires drawn { 0 < step → length ranks.old.priorities ≡ length counts.now }
     requires fresh { 0 < step → IsFresh step ranks.old.changes ranks.old.priorities }
     ensures picked { result ≡ pct_picked step view.now (found_from S.Draws depth step counts.now ranks.old selected.old) }
-    ensures memory { memory_of ranks.new ≡ pct_memory step view.now (memory_of ranks.old) (found_from S.Draws depth step counts.now ranks.old selected.old) }
+    ensures memory { memory_of ranks.new
+        ≡ pct_memory step view.now (memory_of ranks.old) (found_from S.Draws depth step counts.now ranks.old selected.old) }
     ensures able { GrantsAble view.now result }
     ensures selected { selected.new ≡ after_bounds S.Draws selected.old (pct_asked depth step counts.now) }
     ensures threads { ranks.new.threads ≡ ranks.old.threads }
@@ -61,7 +62,7 @@ fn ready<S: Draws>(
     ranks: &mut Ranks,
     selected: &mut S,
 ) -> Result<(), DrawFault>
-    requires depth { (1 ≤ depth) × (depth ≤ 16) }
+    requires depth { IsWithinDepth depth }
     requires threads { ranks.old.threads ≡ length counts.now }
     requires drawn { 0 < step → length ranks.old.priorities ≡ length counts.now }
     requires fresh { 0 < step → IsFresh step ranks.old.changes ranks.old.priorities }
@@ -92,9 +93,10 @@ fn draw<S: Draws>(
     counts: &Weights,
     selected: &mut S,
 ) -> Result<(ArrayVec<u8, THREADS>, ArrayVec<u64, THREADS>), DrawFault>
-    requires depth { (1 ≤ depth) × (depth ≤ 16) }
+    requires depth { IsWithinDepth depth }
     ensures drawn { MatchResult result
-        (λ drawn. draws_found (length counts.now) (answers S.Draws selected.old (pct_bounds depth counts.now)) ≡ Ok (drawn.0.items, drawn.1.items))
+        (λ drawn. draws_found (length counts.now) (answers S.Draws selected.old (pct_bounds depth counts.now))
+        ≡ Ok (drawn.0.items, drawn.1.items))
         (λ fault. answers S.Draws selected.old (pct_bounds depth counts.now) ≡ Err fault) }
     ensures order { IfOk result (λ drawn. IsOrder (length counts.now) drawn.0.items) }
     ensures points { IfOk result (λ drawn. length drawn.1.items < depth) }
@@ -115,7 +117,8 @@ fn draw_order<S: Draws>(
     selected: &mut S,
 ) -> Result<ArrayVec<u8, THREADS>, DrawFault>
     ensures drawn { MatchResult result
-        (λ order. order_found (replicate (length counts.now) 1) (answers S.Draws selected.old (falling (length counts.now))) ≡ Ok order.items)
+        (λ order. order_found (replicate (length counts.now) 1) (answers S.Draws selected.old (falling (length counts.now)))
+        ≡ Ok order.items)
         (λ fault. answers S.Draws selected.old (falling (length counts.now)) ≡ Err fault) }
     ensures order { IfOk result (λ order. IsOrder (length counts.now) order.items) }
     ensures selected { selected.new ≡ after_bounds S.Draws selected.old (falling (length counts.now)) }
@@ -150,7 +153,7 @@ fn draw_changes<S: Draws>(
     events: u64,
     selected: &mut S,
 ) -> Result<ArrayVec<u64, THREADS>, DrawFault>
-    requires { (1 ≤ depth) × (depth ≤ 16) }
+    requires { IsWithinDepth depth }
     ensures drawn { MatchResult result
         (λ changes. answers S.Draws selected.old (change_bounds depth events) ≡ Ok changes.items)
         (λ fault. answers S.Draws selected.old (change_bounds depth events) ≡ Err fault) }

@@ -11,7 +11,7 @@ use seed_draws::Draws;
 use surw_base::{THREADS, ThreadNo};
 
 // Picks among the threads that can go on by their number.
-#[tactic(auto, using(crate::proofs::Able::picks), unfolding(seed_draws::specs::Answers::answers, seed_draws::specs::Answers::after_bounds))]
+#[tactic(auto, using(crate::proofs::AbleThreads::picks), unfolding(seed_draws::specs::Answers::answers, seed_draws::specs::Answers::after_bounds))]
 pub(crate) fn pick<O: Draws>(view: &Announced, other: &mut O) -> Picked
     requires { 0 < plain_bound view.now }
     ensures picked { result ≡ granted_at (plain_thread view.now) (answers O.Draws other.old (plain_bound view.now ∷ [])) }

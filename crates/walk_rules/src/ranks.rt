@@ -1,8 +1,8 @@
 ghost use Rattle.std.specs.Prelude.{◌≡◌, ◌≢◌, ◌<◌, ◌≤◌, ◌-◌, ◌+◌, ◌∷◌, [], ltb, length, map, slice_index, slice_set, IfOk, IfSome, IsSome, ◌↔◌, ℕ};
-ghost use Rattle.std.specs.List.{find, range_with_len};
+ghost use Rattle.std.specs.List.{find};
 ghost use Rattle.surw_base.specs.declared.limits.TheConstants.{THREADS, STEPS};
 ghost use Rattle.frame_links.specs.Lists.{list_at, node_count, HasEachOnce, HasSameNodes};
-ghost use Rattle.walk_rules.specs.Pct.{changed, highest, place_of};
+ghost use Rattle.walk_rules.specs.Pct.{IsWithinDepth, changed, first_priorities, highest, place_of};
 ghost use Rattle.walk_rules.specs.Ranked.{IsFresh};
 ghost use Rattle.walk_rules.specs.Ranks.{AreByPriority, IsOrder};
 ghost use Rattle.walk_rules.specs.Seen.{able_threads, is_able, seen_of};
@@ -93,9 +93,9 @@ impl Ranks {
     /// Puts the threads into a drawn order, with priorities that fall to `depth`, and takes the change points.
     pub(crate) fn put_in_order(&mut self, order: &[u8], depth: u32, changes: ArrayVec<u64, THREADS>)
         requires order { IsOrder self.old.threads order.now }
-        requires depth { (1 ≤ depth) × (depth ≤ THREADS) }
+        requires depth { IsWithinDepth depth }
         ensures threads { self.new.threads ≡ self.old.threads }
-        ensures priorities { self.new.priorities ≡ map (λ thread. depth - 1 + length order.now - place_of order.now thread) (range_with_len 0 (length order.now)) }
+        ensures priorities { self.new.priorities ≡ first_priorities depth (length order.now) order.now }
         ensures changes { self.new.changes ≡ changes.items }
     {
         in_order(&mut self.by_priority, order);
@@ -219,8 +219,8 @@ fn in_order(links: &mut Links, order: &[u8])
 // The priorities of the threads of an order, falling to `depth` for the last.
 fn priorities_along(order: &[u8], depth: u32) -> ArrayVec<u32, THREADS>
     requires few { length order.now ≤ THREADS }
-    requires depth { (1 ≤ depth) × (depth ≤ THREADS) }
-    ensures { result.items ≡ map (λ thread. depth - 1 + length order.now - place_of order.now thread) (range_with_len 0 (length order.now)) }
+    requires depth { IsWithinDepth depth }
+    ensures { result.items ≡ first_priorities depth (length order.now) order.now }
 {
     let mut priorities = ArrayVec::new();
     for thread in 0..order.len() {

@@ -17,7 +17,7 @@ pub enum Rule {
     Surw,
     /// Each thread has a drawn priority, and the highest that can go on is picked; at drawn steps it gets a low one.
     Pct {
-        /// One more than there are such steps, from 1 to 16.
+        /// One more than there are such steps, from 1 to `DEPTH`.
         depth: u8,
     },
     /// Each thread that can go on is picked with equal weight.

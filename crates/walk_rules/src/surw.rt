@@ -40,7 +40,7 @@ pub(crate) fn intend<S: Draws>(
 }
 
 // Picks among the threads whose event isn't selected and the intended one, or among all where there is none of these.
-#[tactic(auto, using(crate::proofs::Able::picks, crate::proofs::SurwLaws::places), unfolding(seed_draws::specs::Answers::answers, seed_draws::specs::Answers::after_bounds))]
+#[tactic(auto, using(crate::proofs::AbleThreads::picks, crate::proofs::SurwLaws::places), unfolding(seed_draws::specs::Answers::answers, seed_draws::specs::Answers::after_bounds))]
 pub(crate) fn choose<O: Draws>(
     view: &Announced,
     intended: Option<ThreadNo>,

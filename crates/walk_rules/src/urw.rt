@@ -13,7 +13,7 @@ use seed_draws::Draws;
 use surw_base::THREADS;
 
 // Picks the thread at a drawn place of the bag of the numbers left, kept to the threads that can go on.
-#[tactic(auto, using(crate::proofs::Able::picks), unfolding(seed_draws::specs::Answers::answers, seed_draws::specs::Answers::after_bounds))]
+#[tactic(auto, using(crate::proofs::AbleThreads::picks), unfolding(seed_draws::specs::Answers::answers, seed_draws::specs::Answers::after_bounds))]
 pub(crate) fn pick<S: Draws>(left: &Weights, view: &Announced, selected: &mut S) -> Picked
     requires each { length view.now ≡ length left.now }
     requires some { 0 < urw_bound left.now view.now }

@@ -51,12 +51,13 @@ impl Model for Walk {
 }
 
 impl Walk {
-    /// The strategy with a count of events for each thread.
+    /// The strategy with a count of events for each thread; PCT's depth is from 1 to `DEPTH`. An error comes only where
+    /// memory is refused.
     pub fn new(alloc: Global, rule: Rule, counts: Weights) -> Result<Walk, OutOfMemory>
         requires { IsDepth rule }
         ensures { IfOk result (λ walk. walk ≡ new_walk rule counts) }
     {
-        let left = copy_of(&counts);
+        let left = counts.copy();
         let ranks = ranks_of(alloc, &rule, counts.threads())?;
         Ok(Walk {
             rule,
@@ -77,9 +78,9 @@ impl Walk {
         let ranks = copy_of_ranks(alloc, &self.ranks)?;
         Ok(Walk {
             rule,
-            counts: copy_of(&self.counts),
+            counts: self.counts.copy(),
             steps: self.steps,
-            left: copy_of(&self.left),
+            left: self.left.copy(),
             intended: self.intended,
             ranks,
             waiting: self.waiting,
@@ -100,11 +101,11 @@ impl Walk {
             && self.waiting == other.waiting
     }
 
-    /// The counts that it is made of.
-    pub fn counts(&self) -> &Weights
+    /// The count of each thread that it is made of.
+    pub fn counts(&self) -> &[u32]
         ensures { result.now ≡ self.now.counts }
     {
-        &self.counts
+        self.counts.as_slice()
     }
 
     /// How many steps it was told, at most `STEPS`.
@@ -135,8 +136,10 @@ impl Walk {
         requires chosen { AreChosenUnder self.old.rule view.now }
         ensures picked { result ≡ (pick_from S.Draws O.Draws self.old view.now selected.old other.old).picked }
         ensures walk { self.new ≡ after_pick self.old (pick_from S.Draws O.Draws self.old view.now selected.old other.old) }
-        ensures selected { selected.new ≡ after_bounds S.Draws selected.old (pick_from S.Draws O.Draws self.old view.now selected.old other.old).selected_bounds }
-        ensures other { other.new ≡ after_bounds O.Draws other.old (pick_from S.Draws O.Draws self.old view.now selected.old other.old).other_bounds }
+        ensures selected { selected.new
+            ≡ after_bounds S.Draws selected.old (pick_from S.Draws O.Draws self.old view.now selected.old other.old).selected_bounds }
+        ensures other { other.new
+            ≡ after_bounds O.Draws other.old (pick_from S.Draws O.Draws self.old view.now selected.old other.old).other_bounds }
         ensures able { GrantsAble view.now result }
     {
         let mut intended = self.intended;
@@ -264,15 +267,8 @@ fn intended_after(intended: Option<ThreadNo>, chosen: bool, forced: bool) -> Opt
     if chosen && !forced { None } else { intended }
 }
 
-// Equal counts.
-fn copy_of(counts: &Weights) -> Weights
-    ensures { result ≡ counts.now }
-{
-    Weights::new(counts.as_slice())
-}
-
 // The least thread that has ended with a number left, or announces a selected event with none left.
-#[tactic(auto, using(crate::proofs::Wrong::firsts))]
+#[tactic(auto, using(crate::proofs::WrongThreads::firsts))]
 fn first_wrong(left: &[u32], view: &[Seen]) -> Option<ThreadNo>
     requires each { length view.now ≡ length left.now }
     requires threads { length view.now ≤ THREADS }

@@ -1,7 +1,7 @@
 use Rattle.std.proofs.Common.{◌-◌, Bool, [], cond, length, replicate, Ok, ap, sym, ◌∙◌, arith}
 use Rattle.std.proofs.lemmas.Bool.{eq-eqb, ne_eqb}
 use Rattle.seed_draws.specs.Answers.{after_bounds, answers}
-use Rattle.walk_rules.proofs.PctDrawn.{after-nil, answers-nil, points-all, points-more, points-refused, points-start}
+use Rattle.walk_rules.proofs.PctDraws.{after-nil, answers-nil, points-all, points-more, points-refused, points-start}
 use Rattle.walk_rules.proofs.pct.draw_changes.Goals as goal
 use Rattle.walk_rules.proofs.pct.draw_changes.Goals.{then-events-gt0+else-loop-point-test, else-events-gt0}
 

@@ -1,7 +1,7 @@
 use Rattle.std.proofs.Common.{◌<◌, get_or, length, sum, ap, sym, subst, ◌∙◌, arith}
 use Rattle.draw_split.specs.Bag.{pick}
 use Rattle.draw_split.proofs.Bag.{sum-less_one}
-use Rattle.walk_rules.proofs.PctDrawn.{order-all, order-refused, ordered-more, ordered-start, some-there}
+use Rattle.walk_rules.proofs.PctDraws.{order-all, order-refused, ordered-more, ordered-start, some-there}
 use Rattle.walk_rules.proofs.pct.draw_order.Goals as goal
 
 pub take-requires : goal.take-requires

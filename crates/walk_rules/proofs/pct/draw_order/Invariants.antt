@@ -1,9 +1,9 @@
 use Rattle.std.proofs.Common.{length, sum}
-use Rattle.walk_rules.proofs.PctDrawn.{IsOrderedSo}
+use Rattle.walk_rules.proofs.PctDraws.{IsOrderSoFar}
 use Rattle.walk_rules.proofs.pct.draw_order.Given as goal
 
 abbrev pub invariant-loop-left : goal.invariant-loop-left
-invariant-loop-left g l = IsOrderedSo g.S.Draws l.initial.selected l.selected (length l.counts) l.left l.order.items
+invariant-loop-left g l = IsOrderSoFar g.S.Draws l.initial.selected l.selected (length l.counts) l.left l.order.items
 
 abbrev pub decreases-loop-left : goal.decreases-loop-left
 decreases-loop-left g l = sum l.left

@@ -1,7 +1,7 @@
 use Rattle.std.proofs.Common.{IsTrue, ap, sym, subst, ◌∙◌}
 use Rattle.walk_rules.specs.Pct.{highest}
 use Rattle.walk_rules.specs.Seen.{able_threads, is_able, seen_of}
-use Rattle.walk_rules.proofs.Able.{able-place}
+use Rattle.walk_rules.proofs.AbleThreads.{able-place}
 use Rattle.walk_rules.proofs.PctLaws.{highest-holds}
 use Rattle.walk_rules.proofs.pct.pick.Goals as goal
 

@@ -6,8 +6,8 @@ use Rattle.walk_rules.specs.PctDraws.{draws_found}
 use Rattle.walk_rules.specs.Ranked.{IsFresh}
 use Rattle.walk_rules.specs.Ranks.{IsOrder}
 use Rattle.walk_rules.specs.State.{memory_of}
-use Rattle.walk_rules.proofs.Drawn.{first-fresh, length-mapped}
-use Rattle.walk_rules.proofs.PctDrawn.{after-nil, first-asks, first-found, later-asks, later-found}
+use Rattle.walk_rules.proofs.FirstPriorities.{first-fresh, length-mapped}
+use Rattle.walk_rules.proofs.PctDraws.{after-nil, first-asks, first-found, later-asks, later-found}
 use Rattle.walk_rules.proofs.pct.ready.Goals as goal
 
 pub returns-then-step-gt0-clause-found : goal.returns-then-step-gt0-clause-found

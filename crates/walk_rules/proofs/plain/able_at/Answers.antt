@@ -1,4 +1,4 @@
-use Rattle.walk_rules.proofs.Able.{before-first}
+use Rattle.walk_rules.proofs.AbleThreads.{before-first}
 use Rattle.walk_rules.proofs.plain.able_at.Goals as goal
 
 pub loop-thread-init : goal.loop-thread-init

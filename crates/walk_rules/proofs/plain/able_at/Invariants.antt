@@ -1,4 +1,4 @@
-use Rattle.walk_rules.proofs.Able.{IsBefore}
+use Rattle.walk_rules.proofs.AbleThreads.{IsBefore}
 use Rattle.walk_rules.proofs.plain.able_at.Given as goal
 
 abbrev pub invariant-loop-thread : goal.invariant-loop-thread

@@ -1,7 +1,7 @@
 use Rattle.std.proofs.Common.{Some, ap, sym, subst, ◌∙◌, arith}
 use Rattle.frame_links.specs.Lists.{list_at}
 use Rattle.walk_rules.specs.Seen.{is_able, seen_of}
-use Rattle.walk_rules.proofs.Searched.{IsSearchTo, at-most-once, search-first, search-found, search-link, search-next, search-node, search-none, search-smaller}
+use Rattle.walk_rules.proofs.LinkSearch.{IsSearchTo, at-most-once, search-first, search-found, search-link, search-next, search-node, search-none, search-smaller}
 use Rattle.walk_rules.proofs.ranks.first_able.Goals as goal
 
 pub loop-at-init : goal.loop-at-init

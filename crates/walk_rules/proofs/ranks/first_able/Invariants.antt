@@ -1,7 +1,7 @@
 use Rattle.std.proofs.Common.{◌-◌, length}
 use Rattle.frame_links.specs.Lists.{list_at}
 use Rattle.walk_rules.specs.Seen.{is_able, seen_of}
-use Rattle.walk_rules.proofs.Searched.{IsSearchTo, place_found}
+use Rattle.walk_rules.proofs.LinkSearch.{IsSearchTo, place_found}
 use Rattle.walk_rules.proofs.ranks.first_able.Given as goal
 
 abbrev pub invariant-loop-at : goal.invariant-loop-at

@@ -1,6 +1,6 @@
 use Rattle.std.proofs.Common.{ltb, get_or, Some, subst, arith}
 use Rattle.frame_links.specs.Lists.{list_at}
-use Rattle.walk_rules.proofs.Searched.{IsSearchTo, at-most-once, high-is, low-is, search-first, search-found, search-link, search-next, search-node, search-none, search-smaller}
+use Rattle.walk_rules.proofs.LinkSearch.{IsSearchTo, at-most-once, high-is, low-is, search-first, search-found, search-link, search-next, search-node, search-none, search-smaller}
 use Rattle.walk_rules.proofs.ranks.first_lower.Goals as goal
 
 pub loop-at-init : goal.loop-at-init

@@ -1,6 +1,6 @@
 use Rattle.std.proofs.Common.{◌-◌, length, ltb, get_or}
 use Rattle.frame_links.specs.Lists.{list_at}
-use Rattle.walk_rules.proofs.Searched.{IsSearchTo, place_found}
+use Rattle.walk_rules.proofs.LinkSearch.{IsSearchTo, place_found}
 use Rattle.walk_rules.proofs.ranks.first_lower.Given as goal
 
 abbrev pub invariant-loop-at : goal.invariant-loop-at

@@ -1,6 +1,6 @@
 use Rattle.std.proofs.Common.{ap, ◌∙◌, arith}
 use Rattle.frame_links.specs.Lists.{at_back}
-use Rattle.walk_rules.proofs.Ordered.{ordered-all, ordered-first, ordered-next, ordered-node}
+use Rattle.walk_rules.proofs.NodeOrder.{ordered-all, ordered-first, ordered-next, ordered-node}
 use Rattle.walk_rules.proofs.ranks.in_order.Goals as goal
 
 pub loop-thread-init : goal.loop-thread-init

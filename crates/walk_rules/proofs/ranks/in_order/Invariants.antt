@@ -1,4 +1,4 @@
-use Rattle.walk_rules.proofs.Ordered.{IsOrderedTo}
+use Rattle.walk_rules.proofs.NodeOrder.{IsOrderedTo}
 use Rattle.walk_rules.proofs.ranks.in_order.Given as goal
 
 abbrev pub invariant-loop-thread : goal.invariant-loop-thread

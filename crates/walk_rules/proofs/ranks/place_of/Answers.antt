@@ -1,4 +1,4 @@
-use Rattle.walk_rules.proofs.Drawn.{place-end, place-here, place-later}
+use Rattle.walk_rules.proofs.FirstPriorities.{place-end, place-here, place-later}
 use Rattle.walk_rules.proofs.ranks.place_of.Goals as goal
 
 pub returns-then-other-thread-clause-place : goal.returns-then-other-thread-clause-place

@@ -1,6 +1,6 @@
 use Rattle.std.proofs.Common.{◌+◌, ◌-◌, length, ap}
 use Rattle.walk_rules.specs.Pct.{place_of}
-use Rattle.walk_rules.proofs.Drawn.{drawn-more}
+use Rattle.walk_rules.proofs.FirstPriorities.{drawn-more}
 use Rattle.walk_rules.proofs.ranks.priorities_along.Goals as goal
 
 pub loop-thread-preserved : goal.loop-thread-preserved

@@ -1,5 +1,5 @@
 use Rattle.std.proofs.Common.{◌<◌, length, arith}
-use Rattle.walk_rules.proofs.Able.{kept-more, kept-all, sum-kept}
+use Rattle.walk_rules.proofs.AbleThreads.{kept-more, kept-all, sum-kept}
 use Rattle.walk_rules.proofs.urw.kept_to_able.Goals as goal
 
 pub overflow_add-sum : goal.overflow_add-sum

@@ -1,4 +1,4 @@
-use Rattle.walk_rules.proofs.Able.{AreKept}
+use Rattle.walk_rules.proofs.AbleThreads.{AreKept}
 use Rattle.walk_rules.proofs.urw.kept_to_able.Given as goal
 
 abbrev pub invariant-loop-thread : goal.invariant-loop-thread

@@ -1,7 +1,7 @@
 use Rattle.std.proofs.Common.{ap, sym, ◌∙◌}
 use Rattle.std.specs.List.{count_by}
 use Rattle.walk_rules.specs.Seen.{is_able}
-use Rattle.walk_rules.proofs.Able.{length-able}
+use Rattle.walk_rules.proofs.AbleThreads.{length-able}
 use Rattle.walk_rules.proofs.announced.Announced.able.Goals as goal
 
 pub returns : goal.returns

@@ -1,6 +1,6 @@
 use Rattle.std.proofs.Common.{◌≡◌, ◌+◌, ◌<◌, length, get_or, ap, sym, subst, ◌∙◌, arith}
 use Rattle.walk_rules.specs.Ranked.{Ranked}
-use Rattle.walk_rules.proofs.Changing.{IsChangedTo, changed-all, changed-first, changed-fresh, changed-here, changed-other}
+use Rattle.walk_rules.proofs.StepChanges.{IsChangedTo, changed-all, changed-first, changed-fresh, changed-here, changed-other}
 use Rattle.walk_rules.proofs.ranks.Ranks.change.Goals as goal
 use Rattle.walk_rules.proofs.ranks.Ranks.change.Goals.{then-deref-place, else-deref-place}
 

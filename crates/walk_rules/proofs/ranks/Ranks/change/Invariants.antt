@@ -1,4 +1,4 @@
-use Rattle.walk_rules.proofs.Changing.{IsChangedTo}
+use Rattle.walk_rules.proofs.StepChanges.{IsChangedTo}
 use Rattle.walk_rules.proofs.ranks.Ranks.change.Given as goal
 
 abbrev pub invariant-loop-place : goal.invariant-loop-place

@@ -2,7 +2,7 @@ use Rattle.std.proofs.Common.{◌≡◌, ℕ, length, subst, arith}
 use Rattle.frame_links.specs.Lists.{list_at}
 use Rattle.walk_rules.specs.Ranked.{Ranked}
 use Rattle.walk_rules.specs.Ranks.{AreByPriority, IsOrder}
-use Rattle.walk_rules.proofs.Ordered.{only-order}
+use Rattle.walk_rules.proofs.NodeOrder.{only-order}
 use Rattle.walk_rules.proofs.ranks.Ranks.drawn.Goals as goal
 
 pub returns-then-len-gt0-clause-threads : goal.returns-then-len-gt0-clause-threads

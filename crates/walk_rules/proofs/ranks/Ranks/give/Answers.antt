@@ -4,7 +4,7 @@ use Rattle.std.specs.List.{find}
 use Rattle.frame_links.specs.Lists.{list_at}
 use Rattle.frame_links.proofs.Changes.{node-within}
 use Rattle.walk_rules.specs.Ranked.{Ranked}
-use Rattle.walk_rules.proofs.Falling.{found-in, lower-other, ranked-back, ranked-before}
+use Rattle.walk_rules.proofs.FallingPriorities.{found-in, lower-other, ranked-back, ranked-before}
 use Rattle.walk_rules.proofs.ranks.Ranks.give.Goals as goal
 
 pub before-requires-clause-apart : goal.before-requires-clause-apart

@@ -6,9 +6,9 @@ use Rattle.walk_rules.specs.Pct.{highest}
 use Rattle.walk_rules.specs.Ranked.{Ranked}
 use Rattle.walk_rules.specs.Ranks.{IsOrder}
 use Rattle.walk_rules.specs.Seen.{able_threads, is_able, seen_of}
-use Rattle.walk_rules.proofs.Falling.{first-highest, first-some, found-in}
-use Rattle.walk_rules.proofs.Ordered.{only-order}
-use Rattle.walk_rules.proofs.Searched.{not-none-some}
+use Rattle.walk_rules.proofs.FallingPriorities.{first-highest, first-some, found-in}
+use Rattle.walk_rules.proofs.NodeOrder.{only-order}
+use Rattle.walk_rules.proofs.LinkSearch.{not-none-some}
 use Rattle.walk_rules.proofs.ranks.Ranks.highest.Goals as goal
 
 pub overflow_cast-node : goal.overflow_cast-node

@@ -3,7 +3,7 @@ use Rattle.frame_links.specs.Lists.{list_at}
 use Rattle.walk_rules.specs.Pct.{place_of}
 use Rattle.walk_rules.specs.Ranked.{Ranked}
 use Rattle.walk_rules.specs.Ranks.{IsFalling, IsOrder}
-use Rattle.walk_rules.proofs.Drawn.{first-falling, first_priorities, length-mapped}
+use Rattle.walk_rules.proofs.FirstPriorities.{first-falling, priorities_from, length-mapped}
 use Rattle.walk_rules.proofs.ranks.Ranks.put_in_order.Goals as goal
 
 pub invariant_of-self : goal.invariant_of-self
@@ -19,6 +19,6 @@ invariant_of-self c =
           ∙ c.requires.order.long ∙ sym (ap (λ (r : Ranked). r.threads) c.self.view_is);
       falling = λ long.
           subst (λ p. IsFalling p (list_at c.in_order.new.links 0)) (sym c.priorities_along-self-inside.ensures)
-          (subst (λ l. IsFalling (first_priorities (c.args.depth - 1 + length c.args.order.now) c.args.order.now) l) (sym c.in_order.ensures.list)
+          (subst (λ l. IsFalling (priorities_from (c.args.depth - 1 + length c.args.order.now) c.args.order.now) l) (sym c.in_order.ensures.list)
           (first-falling (c.args.depth - 1 + length c.args.order.now) c.args.order.now each (omega arith)));
     }

@@ -1,7 +1,7 @@
 use Rattle.std.proofs.Common.{refl, IsSome, ap, ◌∙◌, is_some}
 use Rattle.walk_rules.specs.declared.walk.Walk.TheInside.{Inside}
 use Rattle.walk_rules.specs.State.{WalkState}
-use Rattle.walk_rules.proofs.Told.{idle-after, told-same, told-less}
+use Rattle.walk_rules.proofs.WalkAfterStep.{idle-after, told-same, told-less}
 use Rattle.walk_rules.proofs.walk.Walk.done.Goals as goal
 use Rattle.walk_rules.proofs.walk.Walk.done.Goals.{then-counts_down+then-chosen, else-counts_down}
 

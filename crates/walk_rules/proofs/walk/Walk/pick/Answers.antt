@@ -3,7 +3,7 @@ use Rattle.walk_rules.specs.State.{WalkState}
 use Rattle.walk_rules.specs.Strategies.{counts_down, wants_every}
 use Rattle.walk_rules.specs.Urw.{urw_bound}
 use Rattle.walk_rules.specs.Walk.{wrong_by}
-use Rattle.walk_rules.proofs.Wrong.{urw-some}
+use Rattle.walk_rules.proofs.WrongThreads.{urw-some}
 use Rattle.walk_rules.proofs.walk.Walk.pick.Goals as goal
 
 pub pick-picked-requires-clause-some : goal.pick-picked-requires-clause-some

@@ -93,13 +93,13 @@ module _ {S : Type 0} (draws : Ghosts S) where
   after-nil source = refl
 
   -- an order that is drawn so far
-  pub record IsOrderedSo (before now : S) (threads : ℕ) (left order : List ℕ) : Type 0 where
+  pub record IsOrderSoFar (before now : S) (threads : ℕ) (left order : List ℕ) : Type 0 where
     pub found : prepended order (order_found left (answers draws now (falling (sum left)))) ≡ order_found (replicate threads 1) (answers draws before (falling threads))
     pub source : after_bounds draws now (falling (sum left)) ≡ after_bounds draws before (falling threads)
     pub counted : (thread : ℕ) → times thread order + get_or left thread 0 ≡ get_or (replicate threads 1) thread 0
     pub room : length order + sum left ≡ threads
 
-  pub ordered-start : (before : S) (threads : ℕ) (left : List ℕ) → left ≡ replicate threads 1 → IsOrderedSo before before threads left []
+  pub ordered-start : (before : S) (threads : ℕ) (left : List ℕ) → left ≡ replicate threads 1 → IsOrderSoFar before before threads left []
   ordered-start before threads left is =
       let all : sum left ≡ threads = ap sum is ∙ sum-ones threads in
       record {
@@ -110,10 +110,10 @@ module _ {S : Type 0} (draws : Ghosts S) where
         room = omega (arith, all);
       }
 
-  pub ordered-more : (before now next : S) (threads draw thread number : ℕ) (left order after more : List ℕ) → IsOrderedSo before now threads left order → 0 < sum left
+  pub ordered-more : (before now next : S) (threads draw thread number : ℕ) (left order after more : List ℕ) → IsOrderSoFar before now threads left order → 0 < sum left
       → draws.answer now (sum left) ≡ Ok draw → draw < sum left → next ≡ draws.after_answer now (sum left) → thread ≡ pick left draw → number ≡ thread
       → after ≡ less_one left thread → more ≡ order ++ number ∷ []
-      → IsOrderedSo before next threads after more
+      → IsOrderSoFar before next threads after more
   ordered-more before now next threads draw thread number left order after more to some answered low next_is thread_is number_is after_is more_is =
       let at = placed left draw low in
       let there : 0 < get_or left (pick left draw) 0 = omega (arith, at.within) in
@@ -158,7 +158,7 @@ module _ {S : Type 0} (draws : Ghosts S) where
         room = omega (arith, to.room, total, ap length more_is, length_push order number);
       }
 
-  pub order-refused : (before now next : S) (threads : ℕ) (left order : List ℕ) (fault : DrawFault) → IsOrderedSo before now threads left order
+  pub order-refused : (before now next : S) (threads : ℕ) (left order : List ℕ) (fault : DrawFault) → IsOrderSoFar before now threads left order
       → 0 < sum left → draws.answer now (sum left) ≡ Err fault
       → next ≡ draws.after_answer now (sum left) → (answers draws before (falling threads) ≡ Err fault) × (next ≡ after_bounds draws before (falling threads))
   order-refused before now next threads left order fault to some refused next_is =
@@ -173,7 +173,7 @@ module _ {S : Type 0} (draws : Ghosts S) where
             ∙ to.source,
       )
 
-  pub order-all : (before now : S) (threads : ℕ) (left order : List ℕ) → IsOrderedSo before now threads left order → sum left ≡ 0
+  pub order-all : (before now : S) (threads : ℕ) (left order : List ℕ) → IsOrderSoFar before now threads left order → sum left ≡ 0
       → (order_found (replicate threads 1) (answers draws before (falling threads)) ≡ Ok order) × IsOrder threads order ×
       (now ≡ after_bounds draws before (falling threads))
   order-all before now threads left order to none =
@@ -189,14 +189,14 @@ module _ {S : Type 0} (draws : Ghosts S) where
       )
 
   -- change points that are drawn so far
-  pub record ArePointsSo (before now : S) (events many : ℕ) (points : List ℕ) (point : ℕ) : Type 0 where
+  pub record ArePointsSoFar (before now : S) (events many : ℕ) (points : List ℕ) (point : ℕ) : Type 0 where
     pub left : ℕ
     pub found : prepended points (answers draws now (replicate left events)) ≡ answers draws before (replicate many events)
     pub source : after_bounds draws now (replicate left events) ≡ after_bounds draws before (replicate many events)
     pub many_is : length points + left ≡ many
     pub point_is : length points + 1 ≡ point
 
-  pub points-start : (before : S) (events many : ℕ) → ArePointsSo before before events many [] 1
+  pub points-start : (before : S) (events many : ℕ) → ArePointsSoFar before before events many [] 1
   points-start before events many = record {
     left = many;
     found = prepended-none (answers draws before (replicate many events));
@@ -205,9 +205,9 @@ module _ {S : Type 0} (draws : Ghosts S) where
     point_is = omega arith;
   }
 
-  pub points-more : (before now next : S) (events many draw point : ℕ) (points more : List ℕ) → ArePointsSo before now events many points point
+  pub points-more : (before now next : S) (events many draw point : ℕ) (points more : List ℕ) → ArePointsSoFar before now events many points point
       → point < many + 1 → draws.answer now events ≡ Ok draw
-      → next ≡ draws.after_answer now events → more ≡ points ++ draw ∷ [] → ArePointsSo before next events many more (point + 1)
+      → next ≡ draws.after_answer now events → more ≡ points ++ draw ∷ [] → ArePointsSoFar before next events many more (point + 1)
   points-more before now next events many draw point points more to lt answered next_is more_is =
       let bounds : replicate to.left events ≡ events ∷ replicate (to.left - 1) events = replicate-more to.left events (omega (arith, to.many_is, to.point_is, lt)) in
       let whole : answers draws now (replicate to.left events) ≡ with_first (Ok draw) (answers draws next (replicate (to.left - 1) events)) =
@@ -225,7 +225,7 @@ module _ {S : Type 0} (draws : Ghosts S) where
         point_is = omega (arith, to.point_is, ap length more_is, length_push points draw);
       }
 
-  pub points-refused : (before now next : S) (events many point : ℕ) (points : List ℕ) (fault : DrawFault) → ArePointsSo before now events many points point
+  pub points-refused : (before now next : S) (events many point : ℕ) (points : List ℕ) (fault : DrawFault) → ArePointsSoFar before now events many points point
       → point < many + 1 → draws.answer now events ≡ Err fault
       → next ≡ draws.after_answer now events → (answers draws before (replicate many events) ≡ Err fault) × (next ≡ after_bounds draws before (replicate many events))
   points-refused before now next events many point points fault to lt refused next_is =
@@ -240,7 +240,7 @@ module _ {S : Type 0} (draws : Ghosts S) where
             ∙ to.source,
       )
 
-  pub points-all : (before now : S) (events many point : ℕ) (points : List ℕ) → ArePointsSo before now events many points point → many + 1 ≤ point
+  pub points-all : (before now : S) (events many point : ℕ) (points : List ℕ) → ArePointsSoFar before now events many points point → many + 1 ≤ point
       → (answers draws before (replicate many events) ≡ Ok points) × (length points ≡ many) × (now ≡ after_bounds draws before (replicate many events))
   points-all before now events many point points to past =
       let none : to.left ≡ 0 = omega (arith, to.many_is, to.point_is, past) in

@@ -81,10 +81,10 @@ length-mapped f start (suc n) = ap suc (length-mapped f (start + 1) n)
 
 -- ---- the first priorities
 
-abbrev pub first_priorities : ℕ → List ℕ → List ℕ
-first_priorities top order = map (λ thread. top - place_of order thread) (range_with_len 0 (length order))
+abbrev pub priorities_from : ℕ → List ℕ → List ℕ
+priorities_from top order = map (λ thread. top - place_of order thread) (range_with_len 0 (length order))
 
-first-at : (top : ℕ) (order : List ℕ) (thread : ℕ) → thread < length order → get_or (first_priorities top order) thread 0 ≡ top - place_of order thread
+first-at : (top : ℕ) (order : List ℕ) (thread : ℕ) → thread < length order → get_or (priorities_from top order) thread 0 ≡ top - place_of order thread
 first-at top order thread lt = let same : 0 + thread ≡ thread = omega arith in mapped-at (λ t. top - place_of order t) 0 (length order) thread lt
     ∙ ap (λ t. top - place_of order t) same
 
@@ -93,7 +93,7 @@ ordered-low order thread is there = elim (cases_lt thread (length order)) as (λ
     [ inl low ↦ low | inr high ↦ absurd (omega (arith, there, is.only thread high)) ]
 
 falling-from : (top : ℕ) (order prefix back : List ℕ) → IsOrder (length order) order → length order ≤ top → order ≡ prefix ++ back
-    → IsFalling (first_priorities top order) back
+    → IsFalling (priorities_from top order) back
 falling-from top order prefix [] is le whole = tt
 falling-from top order prefix (first ∷ rest) is le whole =
     let counted : (thread : ℕ) → times thread order ≡ times thread prefix + times thread (first ∷ rest) = λ thread. ap (times thread) whole
@@ -123,7 +123,7 @@ falling-from top order prefix (first ∷ rest) is le whole =
       falling-from top order (prefix ++ first ∷ []) rest is le (whole ∙ sym (append_assoc prefix (first ∷ []) rest)),
     )
 
-pub first-falling : (top : ℕ) (order : List ℕ) → IsOrder (length order) order → length order ≤ top → IsFalling (first_priorities top order) order
+pub first-falling : (top : ℕ) (order : List ℕ) → IsOrder (length order) order → length order ≤ top → IsFalling (priorities_from top order) order
 first-falling top order is le = falling-from top order [] order is le refl
 
 placed-low : (order : List ℕ) (thread : ℕ) → 1 ≤ times thread order → place_of order thread < length order
@@ -135,13 +135,13 @@ placed-low (first ∷ rest) thread there = elim (cases_eq first thread) as (λ _
 
 -- none of them is a number of a change point
 pub first-fresh : (depth : ℕ) (order : List ℕ) (i thread : ℕ) → IsOrder (length order) order → 1 ≤ depth → i + 1 < depth
-    → get_or (first_priorities (depth - 1 + length order) order) thread 0 ≢ i + 1
+    → get_or (priorities_from (depth - 1 + length order) order) thread 0 ≢ i + 1
 first-fresh depth order i thread is some low = λ same. elim (cases_lt thread (length order)) as (λ _. ⊥) [
   | inl lt ↦ omega (arith, same, low, some, first-at (depth - 1 + length order) order thread lt, placed-low order thread (omega (arith, is.once thread lt)))
   | inr past ↦ omega (
     arith,
     same,
-    get_or_past (first_priorities (depth - 1 + length order) order) thread 0
+    get_or_past (priorities_from (depth - 1 + length order) order) thread 0
         (omega (arith, past, length-mapped (λ t. depth - 1 + length order - place_of order t) 0 (length order))),
   )
 ]

@@ -1,7 +1,9 @@
--- The first number of a range that passes a test, and threads that are wrong.
-use Rattle.std.proofs.Common.{◌≡◌, ℕ, zero, suc, ◌+◌, ◌-◌, ◌<◌, Bool, true, false, IsTrue, List, length, get_or, sum, Option, Some, None, refl, ap, sym, ◌∙◌, inl, inr, arith}
+-- Threads that are wrong, and the first number that passes a test.
+use Rattle.std.proofs.Common.{◌≡◌, ℕ, zero, suc, ◌+◌, ◌-◌, ◌<◌, Bool, true, false, IsTrue, List, [], ◌∷◌, length, get_or, sum, Option, Some, None, refl, ap, sym, ◌∙◌, inl, inr, arith}
 use Rattle.std.proofs.lemmas.Bool.{false≢true, cases_Bool, cond-true, cond-false, eqb-false}
 use Rattle.std.proofs.lemmas.List.Elements.{All-get_or}
+use Rattle.std.proofs.lemmas.List.FromFn.{get_or-range_with_len, length-range_with_len}
+use Rattle.std.proofs.lemmas.Option.{none-some}
 use Rattle.std.specs.List.{All, find, range_with_len}
 use Rattle.std.specs.Option.{option_map}
 use Rattle.walk_rules.specs.Seen.{is_able, is_announcing, is_chosen, seen_of, able_threads, kept_to_able}
@@ -9,7 +11,7 @@ use Rattle.walk_rules.specs.Urw.{urw_bound}
 use Rattle.walk_rules.specs.Walk.{is_wrong, first_wrong, wrong_by, AreChosen}
 use Rattle.walk_rules.specs.declared.seen.Seen.{Seen}
 use Rattle.walk_rules.specs.declared.seen.Seen.TheVariants.{Over, Held, Able}
-use Rattle.walk_rules.proofs.Able.{able-place, able-place-within, kept-positive}
+use Rattle.walk_rules.proofs.AbleThreads.{able-place, able-place-within, kept-positive}
 
 -- no number before it passes
 find-at : (test : ℕ → Bool) (first n k : ℕ) → k < n → ((j : ℕ) → j < k → test (first + j) ≡ false) → test (first + k) ≡ true
@@ -26,20 +28,15 @@ find-at test first (suc n) (suc k) lt before here =
     (λ j lt. let more : first + 1 + j ≡ first + suc j = omega arith in ap test more ∙ before (suc j) (omega arith)) (ap test next ∙ here)
     ∙ ap Some next
 
--- no number passes
-find-none : (test : ℕ → Bool) (first n : ℕ) → ((j : ℕ) → j < n → test (first + j) ≡ false) → find test (range_with_len first n) ≡ None
-find-none test first zero none = refl
-find-none test first (suc n) none =
-    let same : first ≡ first + 0 = omega arith in
-    cond-false (test first) (Some first) (find test (range_with_len (first + 1) n)) (ap test same ∙ none 0 (omega arith))
-    ∙ find-none test (first + 1) n (λ j lt. let more : first + 1 + j ≡ first + suc j = omega arith in ap test more ∙ none (suc j) (omega arith))
-
-some-none : {A : Type 0} (n : ℕ) → Some n ≡ None → A
-some-none n same = cc
+-- nothing is found where nothing of a list passes
+pub find-none : (test : ℕ → Bool) (xs : List ℕ) → ((k : ℕ) → k < length xs → test (get_or xs k 0) ≡ false) → find test xs ≡ None
+find-none test [] each = refl
+find-none test (x ∷ xs) each =
+    cond-false (test x) (Some x) (find test xs) (each 0 (omega arith)) ∙ find-none test xs (λ k lt. each (suc k) (omega arith))
 
 first-fails : (test : ℕ → Bool) (first n : ℕ) → find test (range_with_len first (suc n)) ≡ None → test first ≡ false
 first-fails test first n none = elim (cases_Bool (test first)) [
-  | inl passes ↦ some-none first (sym (cond-true (test first) (Some first) (find test (range_with_len (first + 1) n)) passes) ∙ none)
+  | inl passes ↦ absurd (none-some first (sym none ∙ cond-true (test first) (Some first) (find test (range_with_len (first + 1) n)) passes))
   | inr fails ↦ fails
 ]
 
@@ -70,7 +67,10 @@ first-wrong-at left view thread lt before here =
 -- no thread is wrong
 pub first-wrong-none : (left : List ℕ) (view : List Seen) → ((j : ℕ) → j < length view → wrong_at left view j ≡ false) → first_wrong left view ≡ None
 first-wrong-none left view none =
-    find-none (wrong_at left view) 0 (length view) (λ j lt. let as_is : 0 + j ≡ j = omega arith in ap (wrong_at left view) as_is ∙ none j lt)
+    find-none (wrong_at left view) (range_with_len 0 (length view)) (λ j lt.
+    let within : j < length view = omega (arith, lt, length-range_with_len 0 (length view)) in
+    let as_is : get_or (range_with_len 0 (length view)) j 0 ≡ j = get_or-range_with_len 0 (length view) j 0 within ∙ omega arith in
+    ap (wrong_at left view) as_is ∙ none j within)
 
 -- what the pass over the threads finds
 pub ruleset firsts = (first-wrong-at, first-wrong-none)

@@ -6,25 +6,16 @@ use Rattle.std.specs.List.{find}
 use Rattle.frame_links.specs.Lists.{times, without, with_before, list_at, just_before, at_back}
 use Rattle.frame_links.proofs.Times.{times-same, times-other, times-append, times-without_same, times-without_other, without-same, without-other}
 use Rattle.frame_links.proofs.Changes.{at_back-same}
+use Rattle.surw_base.proofs.Searches.{found-passes}
 use Rattle.walk_rules.specs.Pct.{higher, highest}
 use Rattle.walk_rules.specs.Ranks.{IsFalling, IsOrder}
 use Rattle.walk_rules.specs.Seen.{able_threads, is_able, seen_of}
 use Rattle.walk_rules.specs.declared.seen.Seen.{Seen}
 use Rattle.walk_rules.specs.declared.seen.Seen.TheVariants.{Over, Held, Able}
-use Rattle.walk_rules.proofs.Able.{able_from, able-threads, able-place, able-listed}
+use Rattle.walk_rules.proofs.AbleThreads.{able_from, able-threads, able-place, able-listed}
 use Rattle.walk_rules.proofs.PctLaws.{highest-holds}
 
 -- ---- what is found
-
-found-passes : (test : ℕ → Bool) (order : List ℕ) (node : ℕ) → find test order ≡ Some node → test node ≡ true
-found-passes test [] node is = absurd (cc)
-found-passes test (first ∷ rest) node is = elim (cases_Bool (test first)) as (λ _. test node ≡ true) [
-  | inl passes ↦
-      let here : Some first ≡ Some node = sym (ap (λ (b : Bool). cond b (Some first) (find test rest)) passes) ∙ is in
-      let same : first ≡ node = cc in
-      ap test (sym same) ∙ passes
-  | inr fails ↦ found-passes test rest node (sym (ap (λ (b : Bool). cond b (Some first) (find test rest)) fails) ∙ is)
-]
 
 found-there : (test : ℕ → Bool) (order : List ℕ) (node : ℕ) → find test order ≡ Some node → 1 ≤ times node order
 found-there test [] node is = absurd (cc)
