@@ -9,18 +9,19 @@ use Rattle.surw_base.specs.Prefix.{IsLongestPrefix, HasNoPrefix}
 use Rattle.surw_base.specs.Number.{IsNumberText}
 use Rattle.event_class.specs.declared.event.Event.{Event}
 use Rattle.event_class.specs.declared.event.Event.TheVariants.{Acquire, Release, Load, Store, Add, SwapIf, Find, Claim, Fill, Read, Write, Oldest, Stamp, Flush, Reserve, Put, Mark, Durable, Check}
-use Rattle.event_class.specs.Event.{AreSmall, AreNumbersText, IsEventText, IsPrinted, verb_of, numbers_of, numbers_text, event_text}
+use Rattle.surw_base.specs.Lines.{items_text}
+use Rattle.event_class.specs.Event.{AreSmall, AreNumbersText, IsEventText, IsPrinted, verb_of, numbers_of, event_text}
 use Rattle.event_class.proofs.Numbers.{one-more}
 use Rattle.event_class.proofs.Events.{alike, form_by, longest-event, true-begins}
 
 -- numbers that are not followed by a digit begin without one
-no-digit : (ns tail : List ℕ) → BeginsWithNoDigit tail → BeginsWithNoDigit (numbers_text ns ++ tail)
+no-digit : (ns tail : List ℕ) → BeginsWithNoDigit tail → BeginsWithNoDigit (items_text ns ++ tail)
 no-digit [] tail other = other
 no-digit (n ∷ ns) tail other = λ digit. omega (arith, digit)
 
 -- the longest prefix of some numbers grows to that of all
 numbers-from : (text all done todo tail : List ℕ) (i count len : ℕ) → AreSmall todo → BeginsWithNoDigit tail → done ++ todo ≡ all → length all ≡ count
-    → drop len text ≡ numbers_text todo ++ tail → IsLongestPrefix (AreNumbersText i) text done len
+    → drop len text ≡ items_text todo ++ tail → IsLongestPrefix (AreNumbersText i) text done len
     → (n : ℕ) × IsLongestPrefix (AreNumbersText count) text all n
 numbers-from text all done [] tail i count len small other whole many rest longest =
     let same : done ≡ all = sym (append-nil done) ∙ whole in
@@ -31,9 +32,9 @@ numbers-from text all done [] tail i count len small other whole many rest longe
     )
 numbers-from text all done (v ∷ vs) tail i count len small other whole many rest longest =
     let P : ℕ → Type 0 = λ m. m < 2 ^ 64 in
-    let after = numbers_text vs ++ tail in
+    let after = items_text vs ++ tail in
     let behind : drop len text ≡ 32 ∷ (decimal v ++ after) =
-    rest ∙ ap (λ (l : List ℕ). 32 ∷ l) (append_assoc (decimal v) (numbers_text vs) tail) in
+    rest ∙ ap (λ (l : List ℕ). 32 ∷ l) (append_assoc (decimal v) (items_text vs) tail) in
     let room : len < length text =
     omega (arith, ap length behind, length-drop len text) in
     let space : get_or text len 0 ≡ 32 = sym (get_or-drop len text 0 0 ∙ ap (λ (k : ℕ). get_or text k 0) (add-zero len)) ∙ ap (λ (l : List ℕ). get_or l 0 0) behind in
@@ -53,25 +54,25 @@ none-yet text = record {
   within = omega arith;
   prefix = record { text = refl; many = refl; below = All-nil (λ (m : ℕ). m < 2 ^ 64) };
   longest = λ n ws lt within is.
-      omega (arith, length-take-le n text within, ap length is.text, ap (λ (l : List ℕ). length (numbers_text l)) (nil_from_length ws is.many));
+      omega (arith, length-take-le n text within, ap length is.text, ap (λ (l : List ℕ). length (items_text l)) (nil_from_length ws is.many));
 }
 
 -- numbers begin without a digit
-starts-none : (ns : List ℕ) → BeginsWithNoDigit (numbers_text ns)
+starts-none : (ns : List ℕ) → BeginsWithNoDigit (items_text ns)
 starts-none [] digit = omega (arith, digit)
 starts-none (n ∷ ns) digit = omega (arith, digit)
 
 -- as many numbers with one text are the same
-same-numbers : (us vs : List ℕ) → AreSmall us → AreSmall vs → length us ≡ length vs → numbers_text us ≡ numbers_text vs → us ≡ vs
+same-numbers : (us vs : List ℕ) → AreSmall us → AreSmall vs → length us ≡ length vs → items_text us ≡ items_text vs → us ≡ vs
 same-numbers [] [] small fits many is = refl
 same-numbers [] (v ∷ vs) small fits many is = absurd (omega (arith, many))
 same-numbers (u ∷ us) [] small fits many is = absurd (omega (arith, many))
 same-numbers (u ∷ us) (v ∷ vs) small fits many is =
     let P : ℕ → Type 0 = λ m. m < 2 ^ 64 in
-    let digits : decimal u ++ numbers_text us ≡ decimal v ++ numbers_text vs = ap (drop 1) is in
-    let both = number-again (decimal u ++ numbers_text us) (numbers_text vs) v u (length (decimal u)) digits (All-head P v vs fits) (starts-none vs)
-    (number-prefix u (numbers_text us) (All-head P u us small) (starts-none us)) in
-    let rest : numbers_text us ≡ numbers_text vs = sym (drop_at (decimal u) (numbers_text us) (length (decimal u)) refl) ∙ both.1 in
+    let digits : decimal u ++ items_text us ≡ decimal v ++ items_text vs = ap (drop 1) is in
+    let both = number-again (decimal u ++ items_text us) (items_text vs) v u (length (decimal u)) digits (All-head P v vs fits) (starts-none vs)
+    (number-prefix u (items_text us) (All-head P u us small) (starts-none us)) in
+    let rest : items_text us ≡ items_text vs = sym (drop_at (decimal u) (items_text us) (length (decimal u)) refl) ∙ both.1 in
     let more = same-numbers us vs (All-tail P u us small) (All-tail P v vs fits) (omega (arith, many)) rest in
     λ i. both.0 i ∷ more i
 
@@ -108,9 +109,9 @@ same-event v w verb numbers = sym (made-again v) ∙ (λ i. made (form_by (take 
 -- two events of one text are the same
 same-text : (v w : Event) → AreSmall (numbers_of v) → AreSmall (numbers_of w) → event_text v ≡ event_text w → v ≡ w
 same-text v w small fits is =
-    let kind = alike (event_text v) v w (numbers_text (numbers_of v)) (numbers_text (numbers_of w)) refl is in
-    let numbers = append_cancel_left (verb_of v) (numbers_text (numbers_of v)) (numbers_text (numbers_of w))
-    (is ∙ ap (λ (verb : List ℕ). verb ++ numbers_text (numbers_of w)) (sym kind.verb)) in
+    let kind = alike (event_text v) v w (items_text (numbers_of v)) (items_text (numbers_of w)) refl is in
+    let numbers = append_cancel_left (verb_of v) (items_text (numbers_of v)) (items_text (numbers_of w))
+    (is ∙ ap (λ (verb : List ℕ). verb ++ items_text (numbers_of w)) (sym kind.verb)) in
     same-event v w kind.verb (same-numbers (numbers_of v) (numbers_of w) small fits kind.many numbers)
 
 -- an event that is printed is the longest prefix
@@ -118,10 +119,10 @@ pub printed-prefix : (text : List ℕ) (event : Event) (tail : List ℕ) → IsP
 printed-prefix text event tail is =
     let verb = verb_of event in
     let ns = numbers_of event in
-    let begins : text ≡ verb ++ (numbers_text ns ++ tail) = is.text ∙ append_assoc verb (numbers_text ns) tail in
-    let rest : drop (length verb) text ≡ numbers_text ns ++ tail = front_rest text verb (numbers_text ns ++ tail) begins in
+    let begins : text ≡ verb ++ (items_text ns ++ tail) = is.text ∙ append_assoc verb (items_text ns) tail in
+    let rest : drop (length verb) text ≡ items_text ns ++ tail = front_rest text verb (items_text ns ++ tail) begins in
     let numbers = numbers-from (drop (length verb) text) ns [] ns tail 0 (length ns) 0 is.below is.apart refl refl rest (none-yet (drop (length verb) text)) in
-    let whole = longest-event text event event ns numbers.0 (true-begins text verb (numbers_text ns ++ tail) begins) refl refl numbers.1 in
+    let whole = longest-event text event event ns numbers.0 (true-begins text verb (items_text ns ++ tail) begins) refl refl numbers.1 in
     let long : length verb + numbers.0 ≡ length (event_text event) =
     sym (length-take-le (length verb + numbers.0) text whole.within) ∙ ap length whole.prefix.text in
     subst (IsLongestPrefix IsEventText text event) long whole

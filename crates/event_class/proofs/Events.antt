@@ -11,7 +11,8 @@ use Rattle.surw_base.specs.Prefix.{IsLongestPrefix, HasNoPrefix}
 use Rattle.event_class.specs.declared.event.Event.{Event}
 use Rattle.event_class.specs.declared.event.Event.TheVariants.{Acquire, Oldest}
 use Rattle.event_class.specs.declared.event.TheConstants.{FORMS}
-use Rattle.event_class.specs.Event.{AreSmall, AreNumbersText, IsEventText, verb_of, numbers_of, numbers_text}
+use Rattle.surw_base.specs.Lines.{items_text}
+use Rattle.event_class.specs.Event.{AreSmall, AreNumbersText, IsEventText, verb_of, numbers_of}
 
 -- the place of an event's kind among the forms
 abbrev pub place : Event → ℕ
@@ -55,7 +56,7 @@ pub record HasParts (text : List ℕ) (n : ℕ) (event : Event) : Type 0 where
 pub parts : (text : List ℕ) (n : ℕ) (event : Event) → n ≤ length text → IsEventText (take n text) event → HasParts text n event
 parts text n event within is =
     let verb = verb_of event in
-    let numbers = numbers_text (numbers_of event) in
+    let numbers = items_text (numbers_of event) in
     let whole : text ≡ verb ++ (numbers ++ drop n text) =
     sym (take-append-drop n text) ∙ ap (λ (l : List ℕ). l ++ drop n text) is.text ∙ append_assoc verb numbers (drop n text) in
     let rest : drop (length verb) text ≡ numbers ++ drop n text = front_rest text verb (numbers ++ drop n text) whole in
@@ -114,7 +115,7 @@ longest-event text form event numbers len found verb holds longest =
     record {
       within = omega (arith, fits, longest.within, length-drop size text);
       prefix = record {
-        text = take-add size len text ∙ (λ j. prefix j ++ (longest.prefix.text ∙ ap numbers_text (sym holds)) j);
+        text = take-add size len text ∙ (λ j. prefix j ++ (longest.prefix.text ∙ ap items_text (sym holds)) j);
         below = subst (λ (l : List ℕ). AreSmall l) (sym holds) longest.prefix.below;
       };
       longest = λ n w lt within is.

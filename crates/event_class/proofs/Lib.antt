@@ -1,5 +1,5 @@
-pub mod Numbers
+pub mod Again
 pub mod Events
+pub mod Numbers
 pub mod Pickables
 pub mod Same
-pub mod Again

@@ -9,7 +9,8 @@ use Rattle.std.proofs.lemmas.List.Elements.{All-head, All-tail, All-push, All-ta
 use Rattle.std.specs.Fmt.{decimal}
 use Rattle.surw_base.specs.Prefix.{IsLongestPrefix, HasNoPrefix}
 use Rattle.surw_base.specs.Number.{IsNumberText}
-use Rattle.event_class.specs.Event.{AreSmall, AreNumbersText, numbers_text}
+use Rattle.surw_base.specs.Lines.{items_text}
+use Rattle.event_class.specs.Event.{AreSmall, AreNumbersText}
 
 -- how many of the bytes are spaces
 abbrev spaces : List ℕ → ℕ
@@ -32,12 +33,12 @@ spaces-decimal n small = decimal_by_steps (λ m ds. spaces ds ≡ 0)
     n small
 
 -- numbers have one space each
-spaces-numbers : (ns : List ℕ) → AreSmall ns → spaces (numbers_text ns) ≡ length ns
+spaces-numbers : (ns : List ℕ) → AreSmall ns → spaces (items_text ns) ≡ length ns
 spaces-numbers [] small = refl
 spaces-numbers (n ∷ ns) small =
     let none = spaces-decimal n (All-head (λ m. m < 2 ^ 64) n ns small) in
     let more = spaces-numbers ns (All-tail (λ m. m < 2 ^ 64) n ns small) in
-    omega (arith, none, more, spaces-append (decimal n) (numbers_text ns))
+    omega (arith, none, more, spaces-append (decimal n) (items_text ns))
 
 -- a space inside a prefix is one more than those before it
 spaces-inside : (text : List ℕ) (place len : ℕ) → place < len → len ≤ length text → get_or text place 0 ≡ 32
@@ -57,21 +58,21 @@ spaces-inside text place len lt within space =
 pub record IsNext (text : List ℕ) (len n w : ℕ) (more : List ℕ) : Type 0 where
   pub space : get_or text len 0 ≡ 32
   pub number : IsNumberText (take (length (decimal w)) (drop (len + 1) text)) w
-  pub ends : n ≡ len + 1 + length (decimal w) + length (numbers_text more)
+  pub ends : n ≡ len + 1 + length (decimal w) + length (items_text more)
 
 next-split : (text ns us : List ℕ) (w : ℕ) (more : List ℕ) (i len n : ℕ) → IsLongestPrefix (AreNumbersText i) text ns len → n ≤ length text
-    → length us ≡ i → AreSmall us → w < 2 ^ 64 → take n text ≡ numbers_text (us ++ w ∷ more) → IsNext text len n w more
+    → length us ≡ i → AreSmall us → w < 2 ^ 64 → take n text ≡ items_text (us ++ w ∷ more) → IsNext text len n w more
 next-split text ns us w more i len n longest within many small below is =
-    let m = length (numbers_text us) in
+    let m = length (items_text us) in
     let d = length (decimal w) in
-    let rest = decimal w ++ numbers_text more in
-    let parts : take n text ≡ numbers_text us ++ (32 ∷ rest) = is ∙ flat_map-append (λ v. 32 ∷ decimal v) us (w ∷ more) in
-    let long : n ≡ m + 1 + d + length (numbers_text more) =
-    omega (arith, length-take-le n text within, ap length parts, length-append (numbers_text us) (32 ∷ rest), length-append (decimal w) (numbers_text more)) in
-    let prefix : take m text ≡ numbers_text us =
-    sym (take-take m n text (omega arith)) ∙ ap (take m) parts ∙ take_at (numbers_text us) (32 ∷ rest) m refl in
+    let rest = decimal w ++ items_text more in
+    let parts : take n text ≡ items_text us ++ (32 ∷ rest) = is ∙ flat_map-append (λ v. 32 ∷ decimal v) us (w ∷ more) in
+    let long : n ≡ m + 1 + d + length (items_text more) =
+    omega (arith, length-take-le n text within, ap length parts, length-append (items_text us) (32 ∷ rest), length-append (decimal w) (items_text more)) in
+    let prefix : take m text ≡ items_text us =
+    sym (take-take m n text (omega arith)) ∙ ap (take m) parts ∙ take_at (items_text us) (32 ∷ rest) m refl in
     let space : get_or text m 0 ≡ 32 =
-    sym (get_or-take n text m 0 (omega arith)) ∙ ap (λ (l : List ℕ). get_or l m 0) parts ∙ get_or_at (numbers_text us) 32 rest 0 m refl in
+    sym (get_or-take n text m 0 (omega arith)) ∙ ap (λ (l : List ℕ). get_or l m 0) parts ∙ get_or_at (items_text us) 32 rest 0 m refl in
     let same : m ≡ len = elim (cases_lt m len) [
       | inl less ↦
           let more_spaces = spaces-inside text m len less longest.within space in
@@ -84,12 +85,12 @@ next-split text ns us w more i len n longest within many small below is =
       ]
     ] in
     let behind : drop (m + 1) (take n text) ≡ rest =
-    ap (drop (m + 1)) parts ∙ sym (drop-drop 1 m (numbers_text us ++ (32 ∷ rest))) ∙ ap (drop 1) (drop_at (numbers_text us) (32 ∷ rest) m refl) in
-    let k = d + length (numbers_text more) in
+    ap (drop (m + 1)) parts ∙ sym (drop-drop 1 m (items_text us ++ (32 ∷ rest))) ∙ ap (drop 1) (drop_at (items_text us) (32 ∷ rest) m refl) in
+    let k = d + length (items_text more) in
     let cut : drop (m + 1) (take n text) ≡ take k (drop (m + 1) text) =
     let e : n ≡ m + 1 + k = omega arith in ap (λ (z : ℕ). drop (m + 1) (take z text)) e ∙ drop-take (m + 1) k text in
     let digits : take d (drop (m + 1) text) ≡ decimal w =
-    sym (take-take d k (drop (m + 1) text) (omega arith)) ∙ ap (take d) (sym cut ∙ behind) ∙ take_at (decimal w) (numbers_text more) d refl in
+    sym (take-take d k (drop (m + 1) text) (omega arith)) ∙ ap (take d) (sym cut ∙ behind) ∙ take_at (decimal w) (items_text more) d refl in
     record {
       space = subst (λ (z : ℕ). get_or text z 0 ≡ 32) same space;
       number = record { digits = subst (λ (z : ℕ). take d (drop (z + 1) text) ≡ decimal w) same digits; below = below };
@@ -106,7 +107,7 @@ next text ns ws i count len n longest within lt is =
     sym (take-append-drop i ws) ∙ ap (λ (l : List ℕ). take i ws ++ l) (drop_more ws i 0 room) in
     next-split text ns (take i ws) (get_or ws i 0) (drop (i + 1) ws) i len n longest within
     (length-take-le i ws (omega arith)) (All-take P i ws is.below) (All-get_or P ws i 0 room is.below)
-    (is.text ∙ ap numbers_text split)
+    (is.text ∙ ap items_text split)
 
 -- where no space follows, no prefix has more numbers
 pub none-space : (text ns : List ℕ) (i count len : ℕ) → IsLongestPrefix (AreNumbersText i) text ns len → i < count
@@ -128,8 +129,8 @@ one-more text ns i len v width longest room space number =
     let piece : take (1 + width) (drop len text) ≡ 32 ∷ decimal v =
     (let e : 1 + width ≡ suc width = omega arith in
     ap (take (1 + width)) rest ∙ ap (λ (z : ℕ). take z (32 ∷ drop (len + 1) text)) e ∙ ap (λ (l : List ℕ). 32 ∷ l) number.prefix.digits) in
-    let last : numbers_text (ns ++ v ∷ []) ≡ numbers_text ns ++ (32 ∷ decimal v) =
-    flat_map-append (λ (w : ℕ). 32 ∷ decimal w) ns (v ∷ []) ∙ ap (λ (l : List ℕ). numbers_text ns ++ (32 ∷ l)) (append-nil (decimal v)) in
+    let last : items_text (ns ++ v ∷ []) ≡ items_text ns ++ (32 ∷ decimal v) =
+    flat_map-append (λ (w : ℕ). 32 ∷ decimal w) ns (v ∷ []) ∙ ap (λ (l : List ℕ). items_text ns ++ (32 ∷ l)) (append-nil (decimal v)) in
     record {
       within = omega (arith, number.within, length-drop (len + 1) text);
       prefix = record {
@@ -143,7 +144,7 @@ one-more text ns i len v width longest room space number =
           let end : length (drop (i + 1) ws) ≡ 0 = omega (arith, length-drop (i + 1) ws, is.many) in
           let none : drop (i + 1) ws ≡ [] = nil_from_length (drop (i + 1) ws) end in
           number.longest (length (decimal w)) w
-          (omega (arith, behind.ends, ap (λ (l : List ℕ). length (numbers_text l)) none))
+          (omega (arith, behind.ends, ap (λ (l : List ℕ). length (items_text l)) none))
           (omega (arith, behind.ends, length-drop (len + 1) text)) behind.number;
     }
 

@@ -1,5 +1,5 @@
 ghost use Rattle.std.specs.Prelude.{◌≡◌, ◌∷◌, [], ◌≤◌, length, take};
-ghost use Rattle.event_class.specs.Event.{class, object, verb_of, numbers_of};
+ghost use Rattle.event_class.specs.Event.{class, lock_or_cell, verb_of, numbers_of};
 
 /// What an event is about.
 #[derive(Clone, Copy, Debug, PartialEq, Eq)]
@@ -104,8 +104,8 @@ impl Event {
     }
 
     /// The number of its lock or of its cell. None at an event of another class.
-    pub fn object(&self) -> Option<u64>
-        ensures { result ≡ object self.now }
+    pub(crate) fn lock_or_cell(&self) -> Option<u64>
+        ensures { result ≡ lock_or_cell self.now }
     {
         match *self {
             Event::Acquire { l } | Event::Release { l } => Some(l),
@@ -115,8 +115,8 @@ impl Event {
         }
     }
 
-    /// The first word of its text.
-    pub(crate) fn verb(&self) -> &'static [u8]
+    /// The verb with which its text begins, of at most 7 bytes.
+    pub fn verb(&self) -> &'static [u8]
         ensures verb { result.now ≡ verb_of self.now }
         ensures short { length result.now ≤ 7 }
     {

@@ -1,7 +1,7 @@
 ghost use Rattle.std.specs.Prelude.{◌≡◌, ℕ, ◌+◌, List, ◌++◌, ◌≤◌, Some, length, take, drop, IsTrue, IfSome, IfNone, OnOk, OnErr, MatchOption, nat_eq};
 ghost use Rattle.std.specs.List.{starts_with};
 ghost use Rattle.surw_base.specs.Prefix.{IsLongestPrefix, HasNoPrefix};
-ghost use Rattle.event_class.specs.Event.{verb_of, numbers_of, numbers_text, event_text, AreSmall, AreNumbersText, IsEventText, IsPrinted};
+ghost use Rattle.event_class.specs.Event.{verb_of, numbers_of, event_text, AreSmall, AreNumbersText, IsEventText, IsPrinted};
 
 use crate::Event;
 use crate::event::FORMS;

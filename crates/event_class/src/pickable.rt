@@ -1,9 +1,9 @@
-ghost use Rattle.std.specs.Prelude.{ℕ, ◌≡◌, ◌++◌, ◌∷◌, ◌<◌, ◌^◌, Some, IfSome};
-ghost use Rattle.surw_base.specs.Number.{IsNumberText};
-ghost use Rattle.event_class.specs.Selection.{picks, IsPickableText};
+ghost use Rattle.std.specs.Prelude.{◌≡◌, Some, IfSome};
+ghost use Rattle.event_class.specs.Pickable.{IsPickableText, pickable_of};
+ghost use Rattle.event_class.specs.Selection.{picks};
 
 use crate::{Class, Event};
-use surw_base::read_number;
+use surw_base::read_whole_number;
 
 /// What an item of a selection takes.
 #[derive(Clone, Copy, Debug, PartialEq, Eq)]
@@ -26,14 +26,16 @@ impl Pickable {
         match *self {
             Pickable::Every => true,
             Pickable::Of(class) => event.class() == class,
-            Pickable::LockNo(l) => event.class() == Class::Lock && event.object() == Some(l),
-            Pickable::CellNo(c) => event.class() == Class::Cell && event.object() == Some(c),
+            Pickable::LockNo(l) => event.class() == Class::Lock && event.lock_or_cell() == Some(l),
+            Pickable::CellNo(c) => event.class() == Class::Cell && event.lock_or_cell() == Some(c),
         }
     }
 }
 
 /// What a whole text names, as `all`, `cache` or `lock 3`. None exactly where it names nothing.
+#[tactic(auto, using(crate::proofs::Pickables::none_read))]
 pub fn read_pickable(text: &[u8]) -> Option<Pickable>
+    ensures same { result ≡ pickable_of text.now }
     ensures found { IfSome result (IsPickableText text.now) }
     ensures only { (item : Pickable) → IsPickableText text.now item → result ≡ Some item }
 {
@@ -45,24 +47,15 @@ pub fn read_pickable(text: &[u8]) -> Option<Pickable>
         b"disk" => Some(Pickable::Of(Class::Disk)),
         b"log" => Some(Pickable::Of(Class::Log)),
         b"check" => Some(Pickable::Of(Class::Check)),
-        [b'l', b'o', b'c', b'k', b' ', digits @ ..] => whole_number(digits).map(Pickable::LockNo),
-        [b'c', b'e', b'l', b'l', b' ', digits @ ..] => whole_number(digits).map(Pickable::CellNo),
+        [b'l', b'o', b'c', b'k', b' ', digits @ ..] => {
+            let l = read_whole_number(digits)?;
+            Some(Pickable::LockNo(l))
+        }
+        [b'c', b'e', b'l', b'l', b' ', digits @ ..] => {
+            let c = read_whole_number(digits)?;
+            Some(Pickable::CellNo(c))
+        }
         _ => None,
-    }
-}
-
-// The number that a whole text writes.
-fn whole_number(text: &[u8]) -> Option<u64>
-    ensures found { IfSome result (IsNumberText text.now) }
-    ensures only { (n : ℕ) → IsNumberText text.now n → result ≡ Some n }
-{
-    match read_number(text) {
-        None => None,
-        Some((number, len)) => if len == text.len() {
-            Some(number)
-        } else {
-            None
-        },
     }
 }
 
