@@ -1,0 +1,10 @@
+pub mod DrawsFiles
+pub mod JoinFaults
+pub mod Lines
+pub mod ListTexts
+pub mod OffsetsLines
+pub mod OrderFiles
+pub mod OrderText
+pub mod OtherDraws
+pub mod SplitFaults
+pub mod WrongLines
