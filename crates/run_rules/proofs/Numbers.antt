@@ -3,7 +3,7 @@ use Rattle.std.proofs.Common.{◌≡◌, ℕ, ◌+◌, ◌-◌, ◌==◌, ◌&&�
 use Rattle.std.proofs.lemmas.Bool.{cases_eq, cases_lt, eq-eqb, ne_eqb}
 use Rattle.std.proofs.lemmas.List.{ext_get_or, get_or_past, get_or-set_same, get_or-set_other, length-set, length-map, get_or-map}
 use Rattle.std.proofs.lemmas.List.FromFn.{length-enumerate_from, get_or-enumerate_from}
-use Rattle.std.proofs.lemmas.List.Sums.{sum_by-append}
+use Rattle.std.proofs.lemmas.List.Sums.{sum_by_push}
 use Rattle.std.specs.List.{enumerate_from}
 use Rattle.event_class.specs.declared.pickable.Pickable.{Pickable}
 use Rattle.event_class.specs.Selection.{has}
@@ -18,8 +18,7 @@ pub made-more : (selection : List Pickable) (journal : List Entry) (entry : Entr
     ≡ events_made selection journal thread + cond (has selection entry.event && (entry.thread == thread)) 1 0
 unfolding events_made
 made-more selection journal entry thread =
-    sum_by-append (λ (e : Entry). cond (has selection e.event && (e.thread == thread)) 1 0) journal (entry ∷ [])
-    ∙ omega arith
+    sum_by_push (λ (e : Entry). cond (has selection e.event && (e.thread == thread)) 1 0) journal entry
 
 -- none where it isn't
 pub made-none : (selection : List Pickable) (journal : List Entry) (entry : Entry) (thread : ℕ) → has selection entry.event ≡ false

@@ -22,7 +22,7 @@ setup_with selected other plan = record {
   monitors = plan.monitors.items;
 }
 
--- and with its own, by how sources of their kinds answer
+-- and with its own two, by what sources of their kinds answer
 abbrev pub setup_of : {R S O : Type 0} → draws.Ghosts S → draws.Ghosts O → Plan R S O → Setup
 setup_of selected_draws other_draws plan = setup_with (source_of selected_draws plan.selected) (source_of other_draws plan.other) plan
 

@@ -1,5 +1,6 @@
--- The choice at a position, and the bounds that are asked for it, by the rule of the setup. `choices` alone tells the
--- rules apart; elsewhere a rule is asked only whether it counts down, and whether it wants every event.
+-- The choice at a position, and the bounds that are asked for it, by the rule of the setup. Of this crate's definitions
+-- `choices` alone tells one rule from another; other files ask a rule only whether it counts down, and whether it wants
+-- every event.
 use Rattle.std.specs.Prelude.{ℕ, List, length, None}
 use Rattle.seed_draws.specs.Answers.{answers_after}
 use Rattle.walk_rules.specs.declared.picked.Picked.{Picked}

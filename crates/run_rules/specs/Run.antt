@@ -47,8 +47,7 @@ bent_over setup xs = setup.selected.bent (selected_asked setup xs) + setup.other
 
 -- how many draws were bent by then; it stays at the greatest number
 abbrev pub bent_at : Setup → Position → ℕ
-bent_at setup x =
-    min (bent_over setup (positions_of_draws setup x)) greatest
+bent_at setup x = min (bent_over setup (positions_of_draws setup x)) greatest
 
 -- what a run tells
 pub record Outcome : Type 0 where
