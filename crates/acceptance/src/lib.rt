@@ -1,15 +1,12 @@
-//! Tests that cross the crates: whole command lines over shelves and sinks in memory.
+//! Tests that cross the crates: whole command lines over shelves and sinks in memory. What a file makes the program
+//! print stands in the folder `examples`.
 #![tactic(auto)]
 
 #[cfg(test)]
 mod command;
 #[cfg(test)]
-mod draws;
+mod devices;
 #[cfg(test)]
-mod order;
+mod lost_update;
 #[cfg(test)]
-mod pct;
-#[cfg(test)]
-mod plan;
-#[cfg(test)]
-mod surw;
+mod selected_order;
