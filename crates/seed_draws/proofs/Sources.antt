@@ -5,13 +5,13 @@ use Rattle.seed_draws.specs.declared.any_draws.AnyDraws.TheVariants.{Seed, Stric
 use Rattle.seed_draws.specs.Answers.{IsSource, NeverRefuses, source_of}
 use Rattle.seed_draws.specs.AnyDraws.{any_after, any_answer, any_draws}
 use Rattle.seed_draws.specs.AnyLaws.{any_below}
-use Rattle.seed_draws.specs.Seeded.{SeededState}
+use Rattle.seed_draws.specs.Seeded.{SeededState, seeded}
 use Rattle.seed_draws.specs.SeededLaws.{seeded_below}
-use Rattle.seed_draws.specs.SeededSource.{seeded_draws}
+use Rattle.seed_draws.specs.SeededSource.{seeded_draws, seeded_source}
 use Rattle.seed_draws.proofs.Asked.{is-source, never-refuses}
 
-pub seeded-source : (s : SeededState) → IsSource (source_of seeded_draws s).answers
-seeded-source s = is-source seeded_draws seeded_below s
+pub seeded-source : (seed stream : ℕ) → IsSource (seeded_source seed stream).answers
+seeded-source seed stream = is-source seeded_draws seeded_below (seeded seed stream)
 
 -- a seeded source never refuses, in whatever state
 pub seeded-never : (s : SeededState) → NeverRefuses (source_of seeded_draws s).answers

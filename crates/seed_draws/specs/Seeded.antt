@@ -1,4 +1,4 @@
--- Seeded sources: where the generator began, how far it is, and how many draws were bent.
+-- Seeded sources: draws from the words of a generator.
 use Rattle.std.specs.Prelude.{ℕ, zero, suc, ◌+◌, ◌/◌, ◌%◌, ◌-◌, ◌==◌, ◌&&◌, ltb, min, Bool, false, List, position, slice_index, Option, Some, None, Result, Ok, if◌then◌else◌}
 use Rattle.rand_core.specs.Steps.{first_words}
 use Rattle.rand_pcg.specs.Lcg.{Lcg, started, increment_of}
@@ -12,7 +12,7 @@ pub data Progress : Type 0 where
   Counted : ℕ → Progress
   Past : Lcg → Progress
 
--- what a seeded source is seen as
+-- a seeded source: the seed and the stream of its generator, how far it is, and how many draws were bent
 pub record SeededState : Type 0 where
   pub seed : ℕ
   pub stream : ℕ
@@ -32,6 +32,7 @@ generator_at seed stream (suc words) = (pcg64 (generator_at seed stream words)).
 abbrev pub progress_by : ℕ → Lcg → Progress
 progress_by words generator = if ltb words greatest then Counted words else Past generator
 
+-- the generator, by how far a source is
 abbrev pub generator_in : ℕ → ℕ → Progress → Lcg
 generator_in seed stream (Counted words) = generator_at seed stream words
 generator_in seed stream (Past generator) = generator
@@ -44,20 +45,21 @@ generator_of s = generator_in s.seed s.stream s.progress
 abbrev pub word_of : SeededState → ℕ
 word_of s = (pcg64 (generator_of s)).0
 
+-- how far a source is after one word more
 abbrev pub progress_after : ℕ → ℕ → Progress → Progress
 progress_after seed stream (Counted words) = progress_by (words + 1) (generator_at seed stream (suc words))
 progress_after seed stream (Past generator) = Past (pcg64 generator).1
 
--- one word more was taken
+-- a source after one word more
 abbrev pub after_word : SeededState → SeededState
 after_word s = record s { progress = progress_after s.seed s.stream s.progress }
 
--- so many words more were taken
+-- a source after so many words more
 unfoldable pub after_words : ℕ → SeededState → SeededState
 after_words zero s = s
 after_words (suc n) s = after_word (after_words n s)
 
--- one draw more was bent
+-- a source after one bent draw more, whose count stays at the greatest number
 abbrev pub after_bent : SeededState → SeededState
 after_bent s = record s { bent = min (s.bent + 1) greatest }
 
@@ -86,13 +88,16 @@ below_of bound s = if bound == 1 then (0, s) else drawn bound s
 abbrev pub seeded_answer : SeededState → ℕ → Result ℕ DrawFault
 seeded_answer s bound = Ok (below_of bound s).0
 
+-- and it is this after its answer
 abbrev pub seeded_after : SeededState → ℕ → SeededState
 seeded_after s bound = (below_of bound s).1
 
+-- whether two are equally far, and their words are counted
 abbrev pub is_same_progress : Progress → Progress → Bool
 is_same_progress (Counted words) (Counted others) = words == others
 is_same_progress _ _ = false
 
--- whether two count as one: they began at one place, are equally far, and their words are counted
+-- whether two sources count as one: they are equal, and their words are counted
 abbrev pub is_same_seeded : SeededState → SeededState → Bool
-is_same_seeded s other = s.seed == other.seed && s.stream == other.stream && s.bent == other.bent && is_same_progress s.progress other.progress
+is_same_seeded s other =
+    s.seed == other.seed && s.stream == other.stream && s.bent == other.bent && is_same_progress s.progress other.progress

@@ -12,14 +12,14 @@ use surw_base::OutOfMemory;
 /// How many words a draw looks at.
 const TRIES: u8 = 16;
 
-/// A source whose draws are made of the words of a generator. It never refuses. A contract sees its seed and stream, how
-/// many words were taken and how many draws were bent.
+/// A source whose draws are made of the words of a generator. It never refuses. A contract sees the generator's seed and
+/// stream, how many words were taken, and how many draws were bent; both counts stay at the greatest number. While the
+/// words are counted, the generator is the one that the seed and the stream make, after so many words.
 #[derive(Debug, Drop)]
 pub struct Seeded {
     generator: Pcg64,
     seed: u64,
     stream: u64,
-    // Both counts stay at the greatest number.
     words: u64,
     bent: u64,
 }
