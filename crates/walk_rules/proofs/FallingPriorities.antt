@@ -8,7 +8,8 @@ use Rattle.frame_links.proofs.Times.{times-same, times-other, times-append, time
 use Rattle.frame_links.proofs.Changes.{at_back-same}
 use Rattle.surw_base.proofs.Searches.{found-passes}
 use Rattle.walk_rules.specs.Pct.{higher, highest}
-use Rattle.walk_rules.specs.Ranks.{IsFalling, IsOrder}
+use Rattle.pct_draws.specs.Order.{IsOrder}
+use Rattle.walk_rules.specs.Ranks.{IsFalling}
 use Rattle.walk_rules.specs.Seen.{able_threads, is_able, seen_of}
 use Rattle.walk_rules.specs.declared.seen.Seen.{Seen}
 use Rattle.walk_rules.specs.declared.seen.Seen.TheVariants.{Over, Held, Able}

@@ -6,7 +6,8 @@ use Rattle.std.specs.List.{range_with_len}
 use Rattle.frame_links.specs.Lists.{times}
 use Rattle.frame_links.proofs.Times.{times-same, times-other, times-append}
 use Rattle.walk_rules.specs.Pct.{place_of}
-use Rattle.walk_rules.specs.Ranks.{IsFalling, IsOrder}
+use Rattle.pct_draws.specs.Order.{IsOrder}
+use Rattle.walk_rules.specs.Ranks.{IsFalling}
 
 -- ---- the place of a thread
 

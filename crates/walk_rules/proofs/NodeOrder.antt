@@ -5,7 +5,7 @@ use Rattle.std.proofs.lemmas.List.{take_more, take_all, length-append, append_as
 use Rattle.frame_links.specs.Lists.{times, without, list_at, node_count, at_back, HasEachOnce, HasSameNodes}
 use Rattle.frame_links.proofs.Times.{times-append, times-same, without-append, without-none}
 use Rattle.frame_links.proofs.Changes.{at_back-same}
-use Rattle.walk_rules.specs.Ranks.{IsOrder}
+use Rattle.pct_draws.specs.Order.{IsOrder}
 
 -- a list of length n has others first, and then the first of the order
 pub record IsOrderedTo (before now : List (List ℕ)) (order : List ℕ) (index : ℕ) : Type 0 where

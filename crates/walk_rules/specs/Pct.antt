@@ -1,26 +1,18 @@
 -- PCT: at the first pick each thread gets a priority by selected draws, and steps are drawn at which the able thread of
 -- highest priority gets a low one; the able thread of highest priority takes each step.
-use Rattle.std.specs.Prelude.{ℕ, Result, Ok, Err, ◌+◌, ◌-◌, ◌≤◌, ◌==◌, ltb, false, List, [], ◌∷◌, ◌++◌, drop, length, map, replicate, slice_index, slice_set, sum, take, if◌then◌else◌}
+use Rattle.std.specs.Prelude.{ℕ, Result, Ok, Err, ◌+◌, ◌-◌, ◌==◌, ltb, false, List, [], ◌∷◌, ◌++◌, drop, length, map, replicate, slice_index, slice_set, sum, take, if◌then◌else◌}
 use Rattle.std.specs.List.{range_with_len}
 use Rattle.draw_split.specs.Named.{named_order}
 use Rattle.seed_draws.specs.declared.draw_fault.DrawFault.{DrawFault}
 use Rattle.seed_draws.specs.Answers.{Answering}
 use Rattle.seed_draws.specs.Falling.{falling}
-use Rattle.surw_base.specs.declared.limits.TheConstants.{DEPTH}
+use Rattle.pct_draws.specs.ChangePoints.{change_bounds}
 use Rattle.walk_rules.specs.declared.picked.Picked.{Picked}
 use Rattle.walk_rules.specs.declared.picked.Picked.TheVariants.{Grant, Stop}
 use Rattle.walk_rules.specs.declared.seen.Seen.{Seen}
 use Rattle.walk_rules.specs.Seen.{able_threads}
 use Rattle.walk_rules.specs.State.{Memory, WalkState, new_memory}
 use Rattle.walk_rules.specs.Strategy.{OnePick, Strategy}
-
--- the depth is one more than there are change points
-abbrev pub IsWithinDepth : ℕ → Type 0
-IsWithinDepth depth = (1 ≤ depth) × (depth ≤ DEPTH)
-
--- what is asked for the change points: nothing where there are no events
-abbrev pub change_bounds : ℕ → ℕ → List ℕ
-change_bounds depth events = if events == 0 then [] else replicate (depth - 1) events
 
 -- what the first pick asks: an order of all threads, and the change points
 abbrev pub pct_bounds : ℕ → List ℕ → List ℕ

@@ -8,11 +8,6 @@ use Rattle.walk_rules.specs.Pct.{found_by, pct_asked}
 use Rattle.walk_rules.specs.Ranked.{Ranked}
 use Rattle.walk_rules.specs.State.{Memory, memory_of}
 
--- the order that draws name, or their refusal
-abbrev pub order_found : List ℕ → Result (List ℕ) DrawFault → Result (List ℕ) DrawFault
-order_found left (Ok draws) = Ok (named_order left draws)
-order_found left (Err fault) = Err fault
-
 -- the order and the change points that the draws of the first pick name, or their refusal
 abbrev pub draws_found : ℕ → Result (List ℕ) DrawFault → Result (List ℕ × List ℕ) DrawFault
 draws_found threads (Ok draws) = Ok (named_order (replicate threads 1) (take threads draws), drop threads draws)

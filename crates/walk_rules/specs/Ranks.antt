@@ -1,6 +1,7 @@
 -- The threads by priority, and what holds of every `Ranks`.
 use Rattle.std.specs.Prelude.{◌≡◌, ℕ, ◌<◌, ◌≤◌, List, [], ◌∷◌, length, slice_index}
 use Rattle.surw_base.specs.declared.limits.TheConstants.{THREADS}
+use Rattle.pct_draws.specs.Order.{IsOrder}
 use Rattle.frame_links.specs.Lists.{times, list_at, node_count, HasEachOnce}
 use Rattle.walk_rules.specs.declared.ranks.Ranks.TheInside.{Inside}
 
@@ -9,12 +10,6 @@ abbrev pub IsFalling : List ℕ → List ℕ → Type 0
 IsFalling priorities [] = Unit {0}
 IsFalling priorities (first ∷ rest) =
     ((other : ℕ) → 1 ≤ times other rest → slice_index priorities other < slice_index priorities first) × IsFalling priorities rest
-
--- each of so many threads stands in this order once
-pub record IsOrder (threads : ℕ) (order : List ℕ) : Type 0 where
-  pub long : length order ≡ threads
-  pub once : (thread : ℕ) → thread < threads → times thread order ≡ 1
-  pub only : (thread : ℕ) → threads ≤ thread → times thread order ≡ 0
 
 -- links of one list, which has so many threads from the highest priority to the lowest, each once
 pub record AreByPriority (threads : ℕ) (priorities : List ℕ) (links : List (List ℕ)) : Type 0 where

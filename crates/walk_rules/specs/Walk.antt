@@ -1,5 +1,5 @@
 -- A walk after a pick and after a step, and the counts that are wrong.
-use Rattle.std.specs.Prelude.{◌≡◌, ℕ, ◌+◌, ◌-◌, ◌<◌, ◌≤◌, ◌==◌, ◌&&◌, not, ltb, Bool, List, All, length, slice_index, Option, None, Some, if◌then◌else◌, IsOk, IsTrue}
+use Rattle.std.specs.Prelude.{◌≡◌, ℕ, ◌+◌, ◌-◌, ◌<◌, ◌==◌, ◌&&◌, not, ltb, Bool, List, All, length, slice_index, Option, None, Some, if◌then◌else◌, IsOk, IsTrue}
 use Rattle.std.specs.List.{find, range_with_len}
 use Rattle.std.specs.Option.{option_map}
 use Rattle.draw_split.specs.Bag.{less_one}
@@ -10,7 +10,7 @@ use Rattle.walk_rules.specs.declared.rule.Rule.{Rule}
 use Rattle.walk_rules.specs.declared.rule.Rule.TheVariants.{Pct}
 use Rattle.walk_rules.specs.declared.seen.Seen.{Seen}
 use Rattle.walk_rules.specs.declared.seen.Seen.TheVariants.{Over, Held, Able}
-use Rattle.walk_rules.specs.Pct.{IsWithinDepth}
+use Rattle.pct_draws.specs.ChangePoints.{IsWithinDepth}
 use Rattle.walk_rules.specs.Seen.{able_threads, is_able, is_announcing, is_chosen, seen_of}
 use Rattle.walk_rules.specs.State.{Memory, WalkState}
 use Rattle.walk_rules.specs.Strategies.{counts_down, wants_every}

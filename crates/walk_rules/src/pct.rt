@@ -1,20 +1,20 @@
-ghost use Rattle.std.specs.Prelude.{◌≡◌, ◌<◌, ◌≤◌, ◌-◌, ◌+◌, length, replicate, sum, IfOk, MatchResult, OnOk, OnErr, Ok, Err};
-ghost use Rattle.draw_split.specs.Named.{named_order};
+ghost use Rattle.std.specs.Prelude.{◌≡◌, ◌<◌, length, IfOk, MatchResult, OnOk, OnErr, Ok, Err};
 ghost use Rattle.seed_draws.specs.Answers.{after_bounds, answers};
-ghost use Rattle.surw_base.specs.declared.limits.TheConstants.{STEPS, THREADS};
-ghost use Rattle.seed_draws.specs.Falling.{falling};
-ghost use Rattle.walk_rules.specs.Pct.{IsWithinDepth, change_bounds, pct_asked, pct_bounds, pct_memory, pct_picked};
+ghost use Rattle.surw_base.specs.declared.limits.TheConstants.{STEPS};
+ghost use Rattle.pct_draws.specs.ChangePoints.{IsWithinDepth};
+ghost use Rattle.pct_draws.specs.Order.{IsOrder};
+ghost use Rattle.walk_rules.specs.Pct.{pct_asked, pct_bounds, pct_memory, pct_picked};
 ghost use Rattle.walk_rules.specs.Ranked.{IsFresh, IsReadyFor};
-ghost use Rattle.walk_rules.specs.PctDraws.{draws_found, found_from, order_found};
+ghost use Rattle.walk_rules.specs.PctDraws.{draws_found, found_from};
 ghost use Rattle.walk_rules.specs.State.{memory_of};
-ghost use Rattle.walk_rules.specs.Ranks.{IsOrder};
 ghost use Rattle.walk_rules.specs.Seen.{able_threads};
 ghost use Rattle.walk_rules.specs.Walk.{GrantsAble};
 
 use crate::ranks::Ranks;
 use crate::{Announced, Picked};
 use arrayvec::ArrayVec;
-use draw_split::{Weights, split_one};
+use draw_split::Weights;
+use pct_draws::{draw_changes, draw_order};
 use seed_draws::{DrawFault, Draws};
 use surw_base::THREADS;
 
@@ -109,65 +109,4 @@ fn draw<S: Draws>(
         },
         Err(refusal) => Err(refusal),
     }
-}
-
-// Draws an order of the counted threads.
-fn draw_order<S: Draws>(
-    counts: &Weights,
-    selected: &mut S,
-) -> Result<ArrayVec<u8, THREADS>, DrawFault>
-    ensures drawn { MatchResult result
-        (λ order. order_found (replicate (length counts.now) 1) (answers S.Draws selected.old (falling (length counts.now)))
-        ≡ Ok order.items)
-        (λ fault. answers S.Draws selected.old (falling (length counts.now)) ≡ Err fault) }
-    ensures order { IfOk result (λ order. IsOrder (length counts.now) order.items) }
-    ensures selected { selected.new ≡ after_bounds S.Draws selected.old (falling (length counts.now)) }
-{
-    let mut order = ArrayVec::new();
-    let mut left = ones(counts);
-    while left.sum() > 0 {
-        match selected.below(left.sum()) {
-            Ok(draw) => {
-                let (thread, _offset) = split_one(left.as_slice(), draw);
-                order.push(thread.get());
-                left.take(thread);
-            }
-            Err(fault) => return Err(fault),
-        }
-    }
-    Ok(order)
-}
-
-// A count of 1 for each counted thread.
-fn ones(counts: &Weights) -> Weights
-    ensures ones { result ≡ replicate (length counts.now) 1 }
-    ensures few { length counts.now ≤ THREADS }
-{
-    let all = [1; THREADS];
-    Weights::new(&all[..counts.threads()])
-}
-
-// Draws the change points below a number of events.
-fn draw_changes<S: Draws>(
-    depth: u8,
-    events: u64,
-    selected: &mut S,
-) -> Result<ArrayVec<u64, THREADS>, DrawFault>
-    requires { IsWithinDepth depth }
-    ensures drawn { MatchResult result
-        (λ changes. answers S.Draws selected.old (change_bounds depth events) ≡ Ok changes.items)
-        (λ fault. answers S.Draws selected.old (change_bounds depth events) ≡ Err fault) }
-    ensures points { IfOk result (λ changes. length changes.items < depth) }
-    ensures selected { selected.new ≡ after_bounds S.Draws selected.old (change_bounds depth events) }
-{
-    let mut changes = ArrayVec::new();
-    if events > 0 {
-        for _point in 1..depth {
-            match selected.below(events) {
-                Ok(draw) => changes.push(draw),
-                Err(fault) => return Err(fault),
-            }
-        }
-    }
-    Ok(changes)
 }

@@ -1,10 +1,12 @@
-ghost use Rattle.std.specs.Prelude.{◌≡◌, ◌≢◌, ◌<◌, ◌≤◌, ◌-◌, ◌+◌, ◌∷◌, [], ltb, length, map, slice_index, slice_set, IfOk, IfSome, IsSome, ◌↔◌, ℕ};
+ghost use Rattle.std.specs.Prelude.{◌≡◌, ◌≢◌, ◌<◌, ◌≤◌, ◌-◌, ◌+◌, [], ltb, length, slice_index, slice_set, IfOk, IfSome, IsSome, ◌↔◌, ℕ};
 ghost use Rattle.std.specs.List.{find};
-ghost use Rattle.surw_base.specs.declared.limits.TheConstants.{THREADS, STEPS};
+ghost use Rattle.surw_base.specs.declared.limits.TheConstants.{THREADS};
 ghost use Rattle.frame_links.specs.Lists.{list_at, node_count, HasEachOnce, HasSameNodes};
-ghost use Rattle.walk_rules.specs.Pct.{IsWithinDepth, changed, first_priorities, highest, place_of};
+ghost use Rattle.pct_draws.specs.ChangePoints.{IsWithinDepth};
+ghost use Rattle.pct_draws.specs.Order.{IsOrder};
+ghost use Rattle.walk_rules.specs.Pct.{changed, first_priorities, highest, place_of};
 ghost use Rattle.walk_rules.specs.Ranked.{IsFresh};
-ghost use Rattle.walk_rules.specs.Ranks.{AreByPriority, IsOrder};
+ghost use Rattle.walk_rules.specs.Ranks.{AreByPriority};
 ghost use Rattle.walk_rules.specs.Seen.{able_threads, is_able, seen_of};
 
 use crate::Seen;

@@ -1,5 +1,4 @@
 ghost use Rattle.std.specs.Prelude.{◌≡◌, ◌↔◌, ◌<◌, ◌≤◌, ◌&&◌, not, if◌then◌else◌, IsSome, IsTrue, IfOk, IfSome, None, Some, length, slice_index};
-ghost use Rattle.std.specs.Option.{option_map};
 ghost use Rattle.surw_base.specs.declared.limits.TheConstants.{THREADS, STEPS};
 ghost use Rattle.seed_draws.specs.Answers.{after_bounds};
 ghost use Rattle.walk_rules.specs.Ranks.{AreByPriority};

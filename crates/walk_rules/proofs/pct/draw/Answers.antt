@@ -1,7 +1,7 @@
 use Rattle.std.proofs.Common.{length, sum, ap, sym, ◌∙◌}
 use Rattle.seed_draws.specs.Answers.{after_bounds, answers}
 use Rattle.seed_draws.specs.Falling.{falling}
-use Rattle.walk_rules.specs.Pct.{change_bounds}
+use Rattle.pct_draws.specs.ChangePoints.{change_bounds}
 use Rattle.walk_rules.proofs.PctDraws.{after-both, after-refused, draws-both, first-refused, second-refused}
 use Rattle.walk_rules.proofs.pct.draw.Goals as goal
 

@@ -4,10 +4,11 @@ use Rattle.seed_draws.specs.Answers.{after_bounds, answers}
 use Rattle.walk_rules.specs.Pct.{place_of}
 use Rattle.walk_rules.specs.PctDraws.{draws_found}
 use Rattle.walk_rules.specs.Ranked.{IsFresh}
-use Rattle.walk_rules.specs.Ranks.{IsOrder}
+use Rattle.pct_draws.specs.Order.{IsOrder}
 use Rattle.walk_rules.specs.State.{memory_of}
 use Rattle.walk_rules.proofs.FirstPriorities.{first-fresh, length-mapped}
-use Rattle.walk_rules.proofs.PctDraws.{after-nil, first-asks, first-found, later-asks, later-found}
+use Rattle.pct_draws.proofs.DrawSteps.{after-nil}
+use Rattle.walk_rules.proofs.PctDraws.{first-asks, first-found, later-asks, later-found}
 use Rattle.walk_rules.proofs.pct.ready.Goals as goal
 
 pub returns-then-step-gt0-clause-found : goal.returns-then-step-gt0-clause-found

@@ -1,7 +1,8 @@
 use Rattle.std.proofs.Common.{◌≡◌, ℕ, length, subst, arith}
 use Rattle.frame_links.specs.Lists.{list_at}
 use Rattle.walk_rules.specs.Ranked.{Ranked}
-use Rattle.walk_rules.specs.Ranks.{AreByPriority, IsOrder}
+use Rattle.pct_draws.specs.Order.{IsOrder}
+use Rattle.walk_rules.specs.Ranks.{AreByPriority}
 use Rattle.walk_rules.proofs.NodeOrder.{only-order}
 use Rattle.walk_rules.proofs.ranks.Ranks.drawn.Goals as goal
 

@@ -4,7 +4,7 @@ use Rattle.frame_links.specs.Lists.{list_at}
 use Rattle.frame_links.proofs.Changes.{node-within}
 use Rattle.walk_rules.specs.Pct.{highest}
 use Rattle.walk_rules.specs.Ranked.{Ranked}
-use Rattle.walk_rules.specs.Ranks.{IsOrder}
+use Rattle.pct_draws.specs.Order.{IsOrder}
 use Rattle.walk_rules.specs.Seen.{able_threads, is_able, seen_of}
 use Rattle.walk_rules.proofs.FallingPriorities.{first-highest, first-some, found-in}
 use Rattle.walk_rules.proofs.NodeOrder.{only-order}

@@ -2,7 +2,8 @@ use Rattle.std.proofs.Common.{ℕ, ◌+◌, ◌-◌, length, ap, sym, subst, ◌
 use Rattle.frame_links.specs.Lists.{list_at}
 use Rattle.walk_rules.specs.Pct.{place_of}
 use Rattle.walk_rules.specs.Ranked.{Ranked}
-use Rattle.walk_rules.specs.Ranks.{IsFalling, IsOrder}
+use Rattle.pct_draws.specs.Order.{IsOrder}
+use Rattle.walk_rules.specs.Ranks.{IsFalling}
 use Rattle.walk_rules.proofs.FirstPriorities.{first-falling, priorities_from, length-mapped}
 use Rattle.walk_rules.proofs.ranks.Ranks.put_in_order.Goals as goal
 

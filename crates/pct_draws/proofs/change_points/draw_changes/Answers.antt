@@ -1,9 +1,10 @@
 use Rattle.std.proofs.Common.{◌-◌, Bool, [], cond, length, replicate, Ok, ap, sym, ◌∙◌, arith}
 use Rattle.std.proofs.lemmas.Bool.{eq-eqb, ne_eqb}
 use Rattle.seed_draws.specs.Answers.{after_bounds, answers}
-use Rattle.walk_rules.proofs.PctDraws.{after-nil, answers-nil, points-all, points-more, points-refused, points-start}
-use Rattle.walk_rules.proofs.pct.draw_changes.Goals as goal
-use Rattle.walk_rules.proofs.pct.draw_changes.Goals.{then-events-gt0+else-loop-point-test, else-events-gt0}
+use Rattle.pct_draws.proofs.DrawSteps.{after-nil, answers-nil}
+use Rattle.pct_draws.proofs.PointDraws.{points-all, points-more, points-refused, points-start}
+use Rattle.pct_draws.proofs.change_points.draw_changes.Goals as goal
+use Rattle.pct_draws.proofs.change_points.draw_changes.Goals.{then-events-gt0+else-loop-point-test, else-events-gt0}
 
 pub loop-point-init : goal.loop-point-init
 loop-point-init g c = rw (c.new-changes.ensures) (points-start g.S.Draws c.args.selected.now c.args.events (c.args.depth - 1))

@@ -1,8 +1,8 @@
 use Rattle.std.proofs.Common.{◌<◌, get_or, length, sum, ap, sym, subst, ◌∙◌, arith}
 use Rattle.draw_split.specs.Bag.{pick}
 use Rattle.draw_split.proofs.Bag.{sum-less_one}
-use Rattle.walk_rules.proofs.PctDraws.{order-all, order-refused, ordered-more, ordered-start, some-there}
-use Rattle.walk_rules.proofs.pct.draw_order.Goals as goal
+use Rattle.pct_draws.proofs.OrderDraws.{order-all, order-refused, ordered-more, ordered-start, some-there}
+use Rattle.pct_draws.proofs.thread_order.draw_order.Goals as goal
 
 pub take-requires : goal.take-requires
 take-requires g c =

@@ -1,0 +1,3 @@
+pub mod DrawSteps
+pub mod OrderDraws
+pub mod PointDraws

@@ -1,0 +1,2 @@
+pub mod ChangePoints
+pub mod Order
