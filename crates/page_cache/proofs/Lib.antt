@@ -1,0 +1,4 @@
+pub mod PagesApart
+pub mod MovedFrames
+pub mod NewCache
+pub mod ListWalk
