@@ -1,5 +1,6 @@
+pub mod LineNames
 pub mod Replies
 pub mod Run
 pub mod Settle
 pub mod Shapes
-pub mod Words
+pub mod Tokens

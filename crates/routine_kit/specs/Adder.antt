@@ -1,13 +1,14 @@
 -- What an adder announces.
-use Rattle.std.specs.Prelude.{ℕ, ◌+◌, ◌-◌, ◌%◌, ◌^◌, ◌==◌, if◌then◌else◌, Option, None, Some}
+use Rattle.std.specs.Prelude.{ℕ, ◌-◌, ◌==◌, if◌then◌else◌, Option, None, Some}
 use Rattle.event_class.specs.declared.event.Event.{Event}
 use Rattle.event_class.specs.declared.event.Event.TheVariants.{Load, SwapIf}
+use Rattle.surw_base.specs.Number.{wrapping_sum}
 use Rattle.routine_kit.specs.declared.adder.Adder.{Adder}
 
 -- one try: a load, then a swap of what it replied for one more
 abbrev pub adder_try : ℕ → Option ℕ → Event
 adder_try cell None = Load cell
-adder_try cell (Some loaded) = SwapIf cell loaded ((loaded + 1) % 2 ^ 64)
+adder_try cell (Some loaded) = SwapIf cell loaded (wrapping_sum loaded 1)
 
 -- its next event, and none once no tries are left
 abbrev pub adder_announced : Adder → Option Event

@@ -1,5 +1,6 @@
 -- The lines of a routine of steps, and the events that their shapes stand for.
 use Rattle.std.specs.Prelude.{ℕ, ◌<◌, ◌≤◌, List, [], ◌∷◌, length, Option, None, Some, All, slice_index}
+use Rattle.surw_base.specs.declared.limits.TheConstants.{LINES}
 use Rattle.event_class.specs.declared.event.Event.{Event}
 use Rattle.routine_kit.specs.declared.line.Line.{Line}
 use Rattle.routine_kit.specs.declared.line.Line.TheVariants.{Act, Plus, Skip}
@@ -67,13 +68,13 @@ abbrev pub IsTarget : Option ℕ → Type 0
 IsTarget None = Unit {0}
 IsTarget (Some r) = r < 4
 
--- each register in a line is one of the four, and it passes over at most 256 lines
+-- each register in a line is one of the four, and it passes over at most `LINES` lines
 abbrev pub IsLine : Line → Type 0
 IsLine (Act shape into) = All IsOperand (operands_of shape) × IsTarget into
 IsLine (Plus reg by) = (reg < 4) × IsOperand by
-IsLine (Skip over reg equal with) = (over ≤ 256) × (reg < 4) × IsOperand with
+IsLine (Skip over reg equal with) = (over ≤ LINES) × (reg < 4) × IsOperand with
 
--- at most 256 lines
+-- at most `LINES` lines
 pub record AreLines (lines : List Line) : Type 0 where
-  pub few : length lines ≤ 256
+  pub few : length lines ≤ LINES
   pub each : All IsLine lines

@@ -1,6 +1,7 @@
 -- What a routine of steps announces.
-use Rattle.std.specs.Prelude.{ℕ, ◌+◌, ◌%◌, ◌^◌, ◌==◌, not, Bool, if◌then◌else◌, List, [], ◌∷◌, length, drop, Option, None, Some, slice_index, slice_set, slice_get, ltb, zero, suc}
+use Rattle.std.specs.Prelude.{ℕ, ◌+◌, ◌==◌, not, Bool, if◌then◌else◌, List, [], ◌∷◌, length, drop, Option, None, Some, slice_index, slice_set, slice_get, ltb, zero, suc}
 use Rattle.event_class.specs.declared.event.Event.{Event}
+use Rattle.surw_base.specs.Number.{wrapping_sum}
 use Rattle.routine_kit.specs.declared.line.Line.{Line}
 use Rattle.routine_kit.specs.declared.line.Line.TheVariants.{Act, Plus, Skip}
 use Rattle.routine_kit.specs.declared.operand.Operand.{Operand}
@@ -9,7 +10,7 @@ use Rattle.routine_kit.specs.Line.{value_of, event_of}
 
 -- the registers after a `plus`
 abbrev pub added : List ℕ → ℕ → Operand → List ℕ
-added registers reg by = slice_set registers reg ((slice_index registers reg + value_of registers by) % 2 ^ 64)
+added registers reg by = slice_set registers reg (wrapping_sum (slice_index registers reg) (value_of registers by))
 
 -- whether the comparison of a `skip` holds
 abbrev pub holds : List ℕ → ℕ → Bool → Operand → Bool

@@ -10,7 +10,7 @@ mod operand;
 mod routine;
 mod shape;
 mod steps;
-mod word;
+mod token;
 
 pub use adder::Adder;
 pub use any_routine::AnyRoutine;
@@ -18,6 +18,6 @@ pub use line::Line;
 pub use line_text::read_line;
 pub use lines::Lines;
 pub use operand::Operand;
-pub use routine::Routine;
+pub use routine::{Routine, copies};
 pub use shape::Shape;
 pub use steps::Steps;

@@ -5,34 +5,37 @@ ghost use Rattle.routine_kit.specs.declared.line.Line.{Line};
 ghost use Rattle.routine_kit.specs.declared.line.Line.TheVariants.{Plus, Skip, Act};
 ghost use Rattle.routine_kit.specs.declared.operand.Operand.{Operand};
 ghost use Rattle.routine_kit.specs.declared.shape.Shape.{Shape};
-ghost use Rattle.routine_kit.specs.declared.word.Word.{Word};
-ghost use Rattle.routine_kit.specs.declared.word.Word.TheVariants.{Value};
+ghost use Rattle.routine_kit.specs.declared.token.Token.{Token};
+ghost use Rattle.routine_kit.specs.declared.token.Token.TheVariants.{Value};
 ghost use Rattle.routine_kit.specs.Line.{operands_of, IsLine};
-ghost use Rattle.routine_kit.specs.LineText.{words_text, IsWord, shape_verb, line_verb, line_words, into_words, shapes_of_none, shapes_of_one, shapes_of_two, shapes_of_three, IsLineText};
+ghost use Rattle.routine_kit.specs.LineOf.{line_of};
+ghost use Rattle.routine_kit.specs.LineText.{tokens_text, IsToken, shape_verb, line_verb, line_tokens, into_tokens, shapes, IsLineText};
 
-use crate::word::{Word, read_word};
+use crate::token::{Token, read_token};
 use crate::{Line, Operand, Shape};
 use arrayvec::ArrayVec;
+use surw_base::LINES;
 
-// The most words behind a verb.
-const WORDS: usize = 5;
+// The most tokens behind a verb.
+const TOKENS: usize = 5;
 
 /// The line that a whole text writes: an event with a number or a register `r0` to `r3` in each place, and maybe
 /// the reply's register, as `store 0 r1` or `load 0 -> r0`; `plus r0 1`; or `skip 2 if r0 = 1` or `skip 2 if
-/// r0 != r1` with at most 256 lines. One space stands between two words. None exactly where it writes none.
+/// r0 != r1` with at most `LINES` lines. One space stands between two tokens. None exactly where it writes none.
 pub fn read_line(text: &[u8]) -> Option<Line>
+    ensures same { result ≡ line_of text.now }
     ensures found { IfSome result (IsLineText text.now) }
     ensures only { (line : Line) → IsLineText text.now line → result ≡ Some line }
 {
-    let (verb, rest) = text.split_at(word_len(text));
-    match read_words(rest) {
+    let (verb, rest) = text.split_at(token_len(text));
+    match read_tokens(rest) {
         None => None,
-        Some(words) => line_of(verb, words.as_slice()),
+        Some(tokens) => line_of(verb, tokens.as_slice()),
     }
 }
 
 // How many bytes stand before the first space.
-fn word_len(text: &[u8]) -> usize
+fn token_len(text: &[u8]) -> usize
     ensures place { result ≡ position_or_len (λ byte. byte == 32) text.now }
     ensures within { result ≤ length text.now }
 {
@@ -43,50 +46,50 @@ fn word_len(text: &[u8]) -> usize
     len
 }
 
-// The words that a whole text writes, each behind a space.
-fn read_words(text: &[u8]) -> Option<ArrayVec<Word, WORDS>>
-    ensures found { IfSome result (λ words. (text.now ≡ words_text words.items) × All IsWord words.items) }
-    ensures only { (words : List Word) → text.now ≡ words_text words → All IsWord words → length words ≤ WORDS →
-        IsSomeAnd result (λ read. read.items ≡ words) }
+// The tokens that a whole text writes, each behind a space.
+fn read_tokens(text: &[u8]) -> Option<ArrayVec<Token, TOKENS>>
+    ensures found { IfSome result (λ tokens. (text.now ≡ tokens_text tokens.items) × All IsToken tokens.items) }
+    ensures only { (tokens : List Token) → text.now ≡ tokens_text tokens → All IsToken tokens → length tokens ≤ TOKENS →
+        IsSomeAnd result (λ read. read.items ≡ tokens) }
 {
-    let mut words = ArrayVec::new();
+    let mut tokens = ArrayVec::new();
     let mut rest = text;
     while !rest.is_empty() {
-        if rest[0] != b' ' || words.is_full() {
+        if rest[0] != b' ' || tokens.is_full() {
             return None;
         }
         let (_, after) = rest.split_at(1);
-        let (word, behind) = after.split_at(word_len(after));
-        match read_word(word) {
+        let (token, behind) = after.split_at(token_len(after));
+        match read_token(token) {
             None => return None,
-            Some(word) => words.push(word),
+            Some(token) => tokens.push(token),
         }
         rest = behind;
     }
-    Some(words)
+    Some(tokens)
 }
 
-// The line with this verb and these words.
-fn line_of(verb: &[u8], words: &[Word]) -> Option<Line>
-    requires { All IsWord words.now }
-    ensures found { IfSome result (λ line. (verb.now ≡ line_verb line) × (words.now ≡ line_words line) × IsLine line) }
-    ensures only { (line : Line) → verb.now ≡ line_verb line → words.now ≡ line_words line → IsLine line → result ≡ Some line }
+// The line with this verb and these tokens.
+fn line_of(verb: &[u8], tokens: &[Token]) -> Option<Line>
+    requires { All IsToken tokens.now }
+    ensures found { IfSome result (λ line. (verb.now ≡ line_verb line) × (tokens.now ≡ line_tokens line) × IsLine line) }
+    ensures only { (line : Line) → verb.now ≡ line_verb line → tokens.now ≡ line_tokens line → IsLine line → result ≡ Some line }
 {
     match verb {
-        b"plus" => plus_of(words),
-        b"skip" => skip_of(words),
-        _ => act_of(verb, words),
+        b"plus" => plus_of(tokens),
+        b"skip" => skip_of(tokens),
+        _ => act_of(verb, tokens),
     }
 }
 
-// `plus` with these words.
-fn plus_of(words: &[Word]) -> Option<Line>
-    requires { All IsWord words.now }
-    ensures found { IfSome result (λ line. (codes "plus" ≡ line_verb line) × (words.now ≡ line_words line) × IsLine line) }
-    ensures only { (reg : ℕ) (by : Operand) → words.now ≡ line_words (Plus reg by) → result ≡ Some (Plus reg by) }
+// `plus` with these tokens.
+fn plus_of(tokens: &[Token]) -> Option<Line>
+    requires { All IsToken tokens.now }
+    ensures found { IfSome result (λ line. (codes "plus" ≡ line_verb line) × (tokens.now ≡ line_tokens line) × IsLine line) }
+    ensures only { (reg : ℕ) (by : Operand) → tokens.now ≡ line_tokens (Plus reg by) → result ≡ Some (Plus reg by) }
 {
-    match words {
-        [Word::Value(Operand::Reg(reg)), Word::Value(by)] => Some(Line::Plus {
+    match tokens {
+        [Token::Value(Operand::Reg(reg)), Token::Value(by)] => Some(Line::Plus {
             reg: *reg,
             by: *by,
         }),
@@ -94,27 +97,27 @@ fn plus_of(words: &[Word]) -> Option<Line>
     }
 }
 
-// `skip` with these words.
-fn skip_of(words: &[Word]) -> Option<Line>
-    requires { All IsWord words.now }
-    ensures found { IfSome result (λ line. (codes "skip" ≡ line_verb line) × (words.now ≡ line_words line) × IsLine line) }
-    ensures only { (over reg : ℕ) (equal : Bool) (with : Operand) → words.now ≡ line_words (Skip over reg equal with) → over ≤ 256 →
+// `skip` with these tokens.
+fn skip_of(tokens: &[Token]) -> Option<Line>
+    requires { All IsToken tokens.now }
+    ensures found { IfSome result (λ line. (codes "skip" ≡ line_verb line) × (tokens.now ≡ line_tokens line) × IsLine line) }
+    ensures only { (over reg : ℕ) (equal : Bool) (with : Operand) → tokens.now ≡ line_tokens (Skip over reg equal with) → over ≤ LINES →
         result ≡ Some (Skip over reg equal with) }
 {
-    match words {
+    match tokens {
         [
-            Word::Value(Operand::Num(over)),
-            Word::If,
-            Word::Value(Operand::Reg(reg)),
+            Token::Value(Operand::Num(over)),
+            Token::If,
+            Token::Value(Operand::Reg(reg)),
             sign,
-            Word::Value(with),
+            Token::Value(with),
         ] => {
-            if *over > 256 {
+            if *over > LINES as u64 {
                 return None;
             }
             let equal = match sign {
-                Word::Equal => true,
-                Word::Unequal => false,
+                Token::Equal => true,
+                Token::Unequal => false,
                 _ => return None,
             };
             Some(Line::Skip {
@@ -128,49 +131,49 @@ fn skip_of(words: &[Word]) -> Option<Line>
     }
 }
 
-// The event line with this verb and these words.
-fn act_of(verb: &[u8], words: &[Word]) -> Option<Line>
-    requires { All IsWord words.now }
-    ensures found { IfSome result (λ line. (verb.now ≡ line_verb line) × (words.now ≡ line_words line) × IsLine line) }
-    ensures only { (shape : Shape) (into : Option ℕ) → verb.now ≡ shape_verb shape → words.now ≡ line_words (Act shape into) →
+// The event line with this verb and these tokens.
+fn act_of(verb: &[u8], tokens: &[Token]) -> Option<Line>
+    requires { All IsToken tokens.now }
+    ensures found { IfSome result (λ line. (verb.now ≡ line_verb line) × (tokens.now ≡ line_tokens line) × IsLine line) }
+    ensures only { (shape : Shape) (into : Option ℕ) → verb.now ≡ shape_verb shape → tokens.now ≡ line_tokens (Act shape into) →
         result ≡ Some (Act shape into) }
 {
-    let (operands, into) = reply_of(words);
+    let (operands, into) = reply_of(tokens);
     match shape_of(verb, operands) {
         None => None,
         Some(shape) => Some(Line::Act { shape, into }),
     }
 }
 
-// The words before the arrow, and the register behind it, if there is one.
-fn reply_of(words: &[Word]) -> (&[Word], Option<u8>)
-    ensures found { words.now ≡ result.0.now ++ into_words result.1 }
-    ensures only { (operands : List Operand) (into : Option ℕ) → words.now ≡ map Value operands ++ into_words into →
+// The tokens before the arrow, and the register behind it, if there is one.
+fn reply_of(tokens: &[Token]) -> (&[Token], Option<u8>)
+    ensures found { tokens.now ≡ result.0.now ++ into_tokens result.1 }
+    ensures only { (operands : List Operand) (into : Option ℕ) → tokens.now ≡ map Value operands ++ into_tokens into →
         (result.0.now ≡ map Value operands) × (result.1 ≡ into) }
 {
-    match words {
-        [operands @ .., Word::Arrow, Word::Value(Operand::Reg(reg))] => (operands, Some(*reg)),
-        _ => (words, None),
+    match tokens {
+        [operands @ .., Token::Arrow, Token::Value(Operand::Reg(reg))] => (operands, Some(*reg)),
+        _ => (tokens, None),
     }
 }
 
 // The shape with this verb and these operands.
-fn shape_of(verb: &[u8], operands: &[Word]) -> Option<Shape>
+fn shape_of(verb: &[u8], operands: &[Token]) -> Option<Shape>
     ensures found { IfSome result (λ shape. (verb.now ≡ shape_verb shape) × (operands.now ≡ map Value (operands_of shape))) }
     ensures only { (shape : Shape) → verb.now ≡ shape_verb shape → operands.now ≡ map Value (operands_of shape) → result ≡ Some shape }
 {
     match operands {
         [] => no_operand(verb),
-        [Word::Value(x)] => one_operand(verb, *x),
-        [Word::Value(x), Word::Value(y)] => two_operands(verb, *x, *y),
-        [Word::Value(x), Word::Value(y), Word::Value(z)] => three_operands(verb, *x, *y, *z),
+        [Token::Value(x)] => one_operand(verb, *x),
+        [Token::Value(x), Token::Value(y)] => two_operands(verb, *x, *y),
+        [Token::Value(x), Token::Value(y), Token::Value(z)] => three_operands(verb, *x, *y, *z),
         _ => None,
     }
 }
 
 // The shape with this verb and no operand.
 fn no_operand(verb: &[u8]) -> Option<Shape>
-    ensures first { result ≡ find (λ shape. bytes_eq (shape_verb shape) verb.now) shapes_of_none }
+    ensures first { result ≡ find (λ shape. bytes_eq (shape_verb shape) verb.now) (shapes []) }
     ensures found { IfSome result (λ shape. (verb.now ≡ shape_verb shape) × (operands_of shape ≡ [])) }
 {
     with_verb(verb, &[Shape::Oldest, Shape::Reserve, Shape::Durable])
@@ -178,7 +181,7 @@ fn no_operand(verb: &[u8]) -> Option<Shape>
 
 // The shape with this verb and one operand.
 fn one_operand(verb: &[u8], x: Operand) -> Option<Shape>
-    ensures first { result ≡ find (λ shape. bytes_eq (shape_verb shape) verb.now) (shapes_of_one x) }
+    ensures first { result ≡ find (λ shape. bytes_eq (shape_verb shape) verb.now) (shapes (x ∷ [])) }
     ensures found { IfSome result (λ shape. (verb.now ≡ shape_verb shape) × (operands_of shape ≡ x ∷ [])) }
 {
     with_verb(
@@ -199,7 +202,7 @@ fn one_operand(verb: &[u8], x: Operand) -> Option<Shape>
 
 // The shape with this verb and two operands.
 fn two_operands(verb: &[u8], x: Operand, y: Operand) -> Option<Shape>
-    ensures first { result ≡ find (λ shape. bytes_eq (shape_verb shape) verb.now) (shapes_of_two x y) }
+    ensures first { result ≡ find (λ shape. bytes_eq (shape_verb shape) verb.now) (shapes (x ∷ y ∷ [])) }
     ensures found { IfSome result (λ shape. (verb.now ≡ shape_verb shape) × (operands_of shape ≡ x ∷ y ∷ [])) }
 {
     with_verb(
@@ -216,7 +219,7 @@ fn two_operands(verb: &[u8], x: Operand, y: Operand) -> Option<Shape>
 
 // The shape with this verb and three operands.
 fn three_operands(verb: &[u8], x: Operand, y: Operand, z: Operand) -> Option<Shape>
-    ensures first { result ≡ find (λ shape. bytes_eq (shape_verb shape) verb.now) (shapes_of_three x y z) }
+    ensures first { result ≡ find (λ shape. bytes_eq (shape_verb shape) verb.now) (shapes (x ∷ y ∷ z ∷ [])) }
     ensures found { IfSome result (λ shape. (verb.now ≡ shape_verb shape) × (operands_of shape ≡ x ∷ y ∷ z ∷ [])) }
 {
     with_verb(

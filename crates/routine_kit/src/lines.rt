@@ -5,7 +5,7 @@ use std::alloc::Global;
 use std::marker::Model;
 use surw_base::{LINES, OutOfMemory};
 
-/// A list of lines, at most `LINES` of them, in which each register is below 4 and each `over` at most 256. A
+/// A list of lines, at most `LINES` of them, in which each register is below 4 and each `over` at most `LINES`. A
 /// contract sees the list.
 #[derive(Debug, Drop)]
 pub struct Lines {

@@ -27,5 +27,16 @@ pub trait Routine: Drop {
         ensures { IfOk result (λ copy. copy ≡ self.now) };
 }
 
+/// Equal routines, in their order. An error comes only where memory is refused.
+pub fn copies<R: Routine>(alloc: Global, routines: &[R]) -> Result<Vec<R>, OutOfMemory>
+    ensures { IfOk result (λ copies. copies.items ≡ routines.now) }
+{
+    let mut copies = Vec::new(alloc);
+    for routine in routines {
+        copies.push(routine.copy(alloc)?)?;
+    }
+    Ok(copies)
+}
+
 #[cfg(test)]
 mod tests;

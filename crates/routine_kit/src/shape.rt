@@ -121,26 +121,6 @@ impl Shape {
     pub(crate) fn verb(&self) -> &'static [u8]
         ensures { result.now ≡ shape_verb self.now }
     {
-        match self {
-            Shape::Acquire { .. } => b"acquire",
-            Shape::Release { .. } => b"release",
-            Shape::Load { .. } => b"load",
-            Shape::Store { .. } => b"store",
-            Shape::Add { .. } => b"add",
-            Shape::SwapIf { .. } => b"swap_if",
-            Shape::Find { .. } => b"find",
-            Shape::Claim { .. } => b"claim",
-            Shape::Fill { .. } => b"fill",
-            Shape::Read { .. } => b"read",
-            Shape::Write { .. } => b"write",
-            Shape::Oldest => b"oldest",
-            Shape::Stamp { .. } => b"stamp",
-            Shape::Flush { .. } => b"flush",
-            Shape::Reserve => b"reserve",
-            Shape::Put { .. } => b"put",
-            Shape::Mark { .. } => b"mark",
-            Shape::Durable => b"durable",
-            Shape::Check { .. } => b"check",
-        }
+        self.event(&[]).verb()
     }
 }

@@ -48,10 +48,10 @@ fn tell<R: Routine>(routine: &mut R, reply: u64)
 #[test]
 fn a_routine_of_the_test_itself(rt: HostRuntime) -> Result<(), Fail> {
     let mut counter = Counter { next: 7, end: 8 };
-    let copy = counter.copy(rt.alloc())?;
+    let kept = copies(rt.alloc(), &[counter])?;
     assert_eq!(rt; counter.announce(), Some(Event::Store { c: 0, v: 7 }));
     tell(&mut counter, 0);
     assert_eq!(rt; counter.announce(), None);
-    assert_eq!(rt; copy, Counter { next: 7, end: 8 });
+    assert_eq!(rt; kept.as_slice(), &[Counter { next: 7, end: 8 }]);
     Ok(())
 }

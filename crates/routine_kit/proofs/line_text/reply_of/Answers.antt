@@ -5,4 +5,4 @@ use Rattle.routine_kit.proofs.line_text.reply_of.Goals as goal
 
 pub returns-in-Arrow-clause-only : goal.returns-in-Arrow-clause-only
 returns-in-Arrow-clause-only c operands into is =
-    let words = c.args.words.now in reply-only words (take (length words - 2) words) _ operands into (grind (arith, common_steps)) is
+    let tokens = c.args.tokens.now in reply-only tokens (take (length tokens - 2) tokens) _ operands into (grind (arith, common_steps)) is

@@ -1,7 +1,7 @@
 use Rattle.std.proofs.Common.{◌≡◌, ◌∷◌, [], refl, sym, subst, IfSome, Option}
 use Rattle.routine_kit.specs.declared.shape.Shape.{Shape}
 use Rattle.routine_kit.specs.Line.{operands_of}
-use Rattle.routine_kit.specs.LineText.{shape_verb, shapes_of_three}
+use Rattle.routine_kit.specs.LineText.{shape_verb, shapes}
 use Rattle.routine_kit.proofs.Shapes.{found-verb}
 use Rattle.routine_kit.proofs.line_text.three_operands.Goals as goal
 
@@ -9,4 +9,4 @@ pub returns-clause-found : goal.returns-clause-found
 returns-clause-found c =
     let Q : Shape → Type 0 = λ shape. operands_of shape ≡ c.args.x ∷ c.args.y ∷ c.args.z ∷ [] in
     subst (λ (r : Option Shape). IfSome r (λ shape. (c.args.verb.now ≡ shape_verb shape) × Q shape)) (sym c.with_verb.ensures)
-    (found-verb c.args.verb.now Q (shapes_of_three c.args.x c.args.y c.args.z) (refl, (refl, tt)))
+    (found-verb c.args.verb.now Q (shapes (c.args.x ∷ c.args.y ∷ c.args.z ∷ [])) (refl, (refl, tt)))

@@ -1,7 +1,7 @@
 use Rattle.std.proofs.Common.{◌==◌, sym, arith}
 use Rattle.std.proofs.lemmas.Bool.Decides.{Decides-eqb}
 use Rattle.std.proofs.lemmas.List.Sums.{position_or_len_is}
-use Rattle.routine_kit.proofs.line_text.word_len.Goals as goal
+use Rattle.routine_kit.proofs.line_text.token_len.Goals as goal
 
 pub returns-else-text-len-ne32-clause-place : goal.returns-else-text-len-ne32-clause-place
 returns-else-text-len-ne32-clause-place c =

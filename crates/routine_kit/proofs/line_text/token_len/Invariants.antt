@@ -1,5 +1,5 @@
 use Rattle.std.proofs.Common.{◌≡◌, ◌≤◌, ◌<◌, ◌-◌, ◌==◌, ℕ, false, length, get_or}
-use Rattle.routine_kit.proofs.line_text.word_len.Given as goal
+use Rattle.routine_kit.proofs.line_text.token_len.Given as goal
 
 abbrev pub invariant-loop-len : goal.invariant-loop-len
 invariant-loop-len l = record {
