@@ -52,6 +52,6 @@ fn a_routine_of_the_test_itself(rt: HostRuntime) -> Result<(), Fail> {
     assert_eq!(rt; counter.announce(), Some(Event::Store { c: 0, v: 7 }));
     tell(&mut counter, 0);
     assert_eq!(rt; counter.announce(), None);
-    assert_eq!(rt; kept.as_slice(), &[Counter { next: 7, end: 8 }]);
+    assert_eq!(rt; kept.as_slice(), [Counter { next: 7, end: 8 }].as_slice());
     Ok(())
 }
