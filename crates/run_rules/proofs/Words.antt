@@ -12,7 +12,7 @@ use Rattle.test_world.specs.World.{WorldState, is_enabled}
 use Rattle.walk_rules.specs.declared.seen.Seen.{Seen}
 use Rattle.walk_rules.specs.declared.seen.Seen.TheVariants.{Over, Held, Able}
 use Rattle.walk_rules.specs.Seen.{able_threads, is_able, seen_of}
-use Rattle.walk_rules.proofs.Able.{length-able}
+use Rattle.walk_rules.proofs.AbleThreads.{length-able}
 use Rattle.run_rules.specs.Position.{Position, world_at, seen_word, seen_at}
 use Rattle.run_rules.specs.Setup.{Setup}
 use Rattle.run_rules.specs.Verdict.{deadlock}

@@ -5,7 +5,7 @@ use Rattle.std.proofs.lemmas.List.{append-nil, drop_more, get_or-set_same, lengt
 use Rattle.std.proofs.lemmas.Option.{get_or_from_slice_get, slice_get_within}
 use Rattle.std.specs.List.{slice_get}
 use Rattle.draw_split.specs.Named.{named_order}
-use Rattle.draw_split.proofs.Named.{AreGood, draw_list, good-nil, named_order-nil}
+use Rattle.draw_split.proofs.NamedOrders.{AreGood, draw_list, good-nil, named_order-nil}
 use Rattle.seed_draws.specs.Answers.{IsSource}
 use Rattle.seed_draws.specs.Falling.{falling}
 use Rattle.event_class.specs.declared.event.Event.{Event}

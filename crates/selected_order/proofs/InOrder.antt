@@ -8,7 +8,7 @@ use Rattle.std.specs.List.{filter}
 use Rattle.draw_split.specs.Bag.{pick, less_one}
 use Rattle.draw_split.specs.Named.{named_order}
 use Rattle.draw_split.proofs.Bag.{placed, sum-less_one}
-use Rattle.draw_split.proofs.Named.{AreGood, good-cons, named_order-cons}
+use Rattle.draw_split.proofs.NamedOrders.{AreGood, good-cons, named_order-cons}
 use Rattle.seed_draws.specs.Answers.{Source, IsSource}
 use Rattle.seed_draws.specs.Falling.{falling}
 use Rattle.event_class.specs.declared.pickable.Pickable.{Pickable}

@@ -8,7 +8,7 @@ use Rattle.event_class.specs.declared.pickable.Pickable.TheVariants.{Every}
 use Rattle.event_class.specs.Selection.{has}
 use Rattle.walk_rules.specs.declared.seen.Seen.{Seen}
 use Rattle.walk_rules.specs.Seen.{is_able, seen_of, kept_to_able}
-use Rattle.walk_rules.proofs.Able.{kept-index, length-kept}
+use Rattle.walk_rules.proofs.AbleThreads.{kept-index, length-kept}
 use Rattle.run_rules.specs.declared.entry.Entry.{Entry}
 use Rattle.run_rules.specs.EventsMade.{events_made}
 use Rattle.run_rules.specs.LegalJournal.{IsLegal}

@@ -1,11 +1,12 @@
 -- No count is wrong after a legal journal of a script whose counts are true.
-use Rattle.std.proofs.Common.{◌≡◌, ℕ, suc, ◌<◌, nat_le, Bool, true, false, cond, List, [], ◌∷◌, length, get_or, Option, None, Some, refl, ap, sym, ◌∙◌, inl, inr, arith}
+use Rattle.std.proofs.Common.{◌≡◌, ℕ, ◌<◌, nat_le, Bool, true, false, List, length, get_or, Option, None, Some, refl, ap, sym, ◌∙◌, inl, inr, arith}
 use Rattle.std.proofs.lemmas.Bool.{cases_Bool, le-ltb, lt-leb, and_left, and_right}
 use Rattle.std.proofs.lemmas.List.FromFn.{length-range_with_len, get_or-range_with_len}
-use Rattle.std.specs.List.{find, range_with_len}
+use Rattle.std.specs.List.{range_with_len}
 use Rattle.event_class.specs.declared.event.Event.{Event}
 use Rattle.event_class.specs.declared.pickable.Pickable.{Pickable}
 use Rattle.event_class.specs.Selection.{has}
+use Rattle.walk_rules.proofs.WrongThreads.{find-none}
 use Rattle.run_rules.specs.declared.entry.Entry.{Entry}
 use Rattle.run_rules.specs.EventsMade.{events_made}
 use Rattle.run_rules.specs.LegalJournal.{IsLegal}
@@ -16,11 +17,6 @@ use Rattle.run_rules.specs.Verdict.{is_miscounted, first_miscounted}
 use Rattle.run_rules.proofs.Scripts.{length-words, word-announcement}
 use Rattle.selected_order.specs.SurwScript.{IsTame}
 use Rattle.selected_order.proofs.Completions.{made-counted, made-fewer}
-
-find-none : (test : ℕ → Bool) (xs : List ℕ) → ((k : ℕ) → k < length xs → test (get_or xs k 0) ≡ false) → find test xs ≡ None
-find-none test [] each = refl
-find-none test (x ∷ xs) each =
-    ap (λ (b : Bool). cond b (Some x) (find test xs)) (each 0 (omega arith)) ∙ find-none test xs (λ k lt. each (suc k) (omega (arith, lt)))
 
 well-counted : (selection : List Pickable) (counted made : ℕ) (word : Option Event) → (word ≡ None → made ≡ counted)
     → ((event : Event) → word ≡ Some event → has selection event ≡ true → made < counted) → is_miscounted selection counted made word ≡ false
