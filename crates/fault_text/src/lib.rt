@@ -1,0 +1,12 @@
+//! The line that a refused command line prints.
+#![tactic(auto)]
+
+mod fault;
+mod item;
+mod line;
+mod scenario_line;
+
+pub use fault::Fault;
+
+#[cfg(test)]
+mod tests;
