@@ -91,7 +91,11 @@ claimed cache frame page = last_of_clean (written cache frame page 0 0) frame
 abbrev pub stored : CacheState → Held → CacheState
 stored cache held = record cache { disk = slice_set cache.disk held.page held.content }
 
+-- so many frames and pages
+pub record IsOfSize (cache : CacheState) (frames pages : ℕ) : Type 0 where
+  pub frame_count : length cache.frames ≡ frames
+  pub page_count : length cache.disk ≡ pages
+
 -- as many frames and pages as before
-pub record HasSameSize (old new : CacheState) : Type 0 where
-  pub frames : length new.frames ≡ length old.frames
-  pub pages : length new.disk ≡ length old.disk
+abbrev pub HasSameSize : CacheState → CacheState → Type 0
+HasSameSize old new = IsOfSize new (length old.frames) (length old.disk)

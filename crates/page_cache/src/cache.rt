@@ -4,7 +4,7 @@ ghost use Rattle.surw_base.specs.declared.limits.TheConstants.{FRAMES, PAGES};
 ghost use Rattle.frame_links.specs.Lists.{list_at};
 ghost use Rattle.page_cache.specs.Cache.{new_cache, new_page, lists_of, is_past, has, holds};
 ghost use Rattle.page_cache.specs.Cache.{frame_of, held_in, clean_in, dirty_in, on_disk};
-ghost use Rattle.page_cache.specs.Cache.{last_of_clean, last_of_dirty, holding, claimed, stored, HasSameSize};
+ghost use Rattle.page_cache.specs.Cache.{last_of_clean, last_of_dirty, holding, stored, IsOfSize, HasSameSize};
 ghost use Rattle.page_cache.specs.Events.{find, claim, fill, read, write, oldest, stamp, flush};
 ghost use Rattle.page_cache.specs.Sound.{IsSound};
 
@@ -48,7 +48,8 @@ impl PageCache {
     pub fn new(alloc: Global, frames: u16, pages: u16) -> Result<PageCache, OutOfMemory>
         requires frames { frames ≤ FRAMES }
         requires pages { pages ≤ PAGES }
-        ensures { IfOk result (λ cache. cache ≡ new_cache frames pages) }
+        ensures cache { IfOk result (λ cache. cache ≡ new_cache frames pages) }
+        ensures size { IfOk result (λ cache. IsOfSize cache frames pages) }
     {
         let links = Links::new(alloc, frames, 3)?;
         let none = vec![in alloc; None; usize::from(frames)]?;
@@ -84,12 +85,13 @@ impl PageCache {
         if let Some(frame) = self.frame_of(p) {
             return u64::from(frame);
         }
+        let empty = Content { value: 0, stamp: 0 };
         if let Some(frame) = self.first(FREE) {
-            self.take(frame, page);
+            self.take(frame, page, empty);
             return u64::from(frame);
         }
         if let Some(frame) = self.first(CLEAN) {
-            self.take(frame, page);
+            self.take(frame, page, empty);
             return u64::from(frame);
         }
         u64::MAX
@@ -374,14 +376,13 @@ impl PageCache {
         self.disk[usize::from(held.page)] = held.content;
     }
 
-    // The frame holds a page with value 0 and stamp 0, last of clean.
-    fn take(&mut self, frame: u16, page: u16)
+    // The frame holds a page that no other holds, and is last of clean.
+    fn take(&mut self, frame: u16, page: u16, content: Content)
         requires frame { frame < length self.old.frames }
         requires page { page < length self.old.disk }
         requires apart { frame_of self.old page ≡ None }
-        ensures { self.new ≡ claimed self.old frame page }
+        ensures { self.new ≡ last_of_clean (holding self.old frame page content) frame }
     {
-        let content = Content { value: 0, stamp: 0 };
         self.frames[usize::from(frame)] = Some(Held { page, content });
         self.links.to_back(CLEAN, frame);
     }
