@@ -8,9 +8,9 @@ use Rattle.test_world.specs.Monitor.{is_failing}
 use Rattle.test_world.specs.World.{WorldState}
 use Rattle.run_rules.specs.declared.verdict.Verdict.{Verdict}
 use Rattle.run_rules.specs.declared.verdict.Verdict.TheVariants.{Ended}
-use Rattle.run_rules.specs.Failed.{is_ended}
+use Rattle.run_rules.specs.MonitorFailures.{is_ended}
 use Rattle.pure_run.specs.Run.{place_at_end, at_end}
-use Rattle.pure_run.specs.Watched.{failed_in, failed_then}
+use Rattle.pure_run.specs.Monitors.{failed_in, failed_then}
 
 length-then : (world : WorldState) (step : ℕ) (places : List (Option ℕ)) (monitors : List Monitor) → length (failed_then world step places monitors) ≡ length places
 unfolding failed_then

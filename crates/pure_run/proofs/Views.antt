@@ -57,11 +57,17 @@ all-same world other locks selection (word ∷ words) =
     ap (λ seen. seen ∷ map (seen_word world selection) words) (seen-same world other locks selection word)
     ∙ ap (λ rest. seen_word other selection word ∷ rest) (all-same world other locks selection words)
 
+-- the word of one thread becomes due
+pub seen-set : (world : WorldState) (selection : List Pickable) (words : List Word) (thread : ℕ)
+    → set (map (seen_word world selection) (map last_word words)) thread Over ≡ map (seen_word world selection) (map last_word (set words thread Due))
+seen-set world selection words thread =
+    sym (map-set (seen_word world selection) (map last_word words) thread None)
+    ∙ ap (λ last. map (seen_word world selection) last) (sym (map-set last_word words thread Due))
+
 -- after such an event only its thread is seen otherwise
 pub seen-step : (world : WorldState) (selection : List Pickable) (words : List Word) (thread : ℕ) (event : Event) → (class event ≡ Class.Lock → ⊥)
     → set (map (seen_word world selection) (map last_word words)) thread Over
     ≡ map (seen_word (after world thread event) selection) (map last_word (set words thread Due))
 seen-step world selection words thread event other =
-    sym (map-set (seen_word world selection) (map last_word words) thread None)
-    ∙ ap (λ last. map (seen_word world selection) last) (sym (map-set last_word words thread Due))
+    seen-set world selection words thread
     ∙ sym (all-same (after world thread event) world (after-locks world thread event other) selection (map last_word (set words thread Due)))

@@ -2,29 +2,30 @@
 use Rattle.std.specs.Prelude.{◌≡◌, ℕ, Bool, true, false, List, [], ◌∷◌, ◌++◌, map, replicate, slice_get, slice_set, slice_index_or, Option, None, Some, is_some, IsTrue, IsSomeAnd, if◌then◌else◌}
 use Rattle.std.specs.List.{list_any}
 use Rattle.event_class.specs.declared.event.Event.{Event}
-use Rattle.seed_draws.specs.Answers.{Source}
-use Rattle.test_world.specs.World.{is_enabled}
+use Rattle.seed_draws.specs.declared.draws.Draws.{Ghosts}
+use Rattle.seed_draws.specs.Answers.{source_of}
+use Rattle.test_world.specs.World.{is_enabled, reply}
 use Rattle.walk_rules.specs.declared.picked.Picked.{Picked}
 use Rattle.walk_rules.specs.declared.picked.Picked.TheVariants.{Grant, Stop}
 use Rattle.run_rules.specs.declared.entry.Entry.{Entry}
 use Rattle.run_rules.specs.declared.verdict.Verdict.{Verdict}
-use Rattle.run_rules.specs.Choice.{choice}
+use Rattle.run_rules.specs.RuleChoice.{choice}
 use Rattle.run_rules.specs.Position.{Position, world_at}
 use Rattle.run_rules.specs.Setup.{Setup}
 use Rattle.run_rules.specs.Verdict.{verdict_at}
 use Rattle.pure_run.specs.declared.word.Word.{Word}
 use Rattle.pure_run.specs.declared.word.Word.TheVariants.{Due, Said}
-use Rattle.pure_run.specs.Opened.{OpenedWith, setup_in}
+use Rattle.pure_run.specs.Opening.{OpeningState, setup_in}
 
--- what it was opened with, the journal, and what each thread has said since its last step
+-- what it is opened with, the journal, and what each thread has said since its last step
 pub record CoreState (S O : Type 0) : Type 0 where
-  pub opened : OpenedWith S O
+  pub opening : OpeningState S O
   pub journal : List Entry
   pub words : List Word
 
 -- a core as it is opened: no thread has said anything
-abbrev pub opened_core : {S O : Type 0} → OpenedWith S O → CoreState S O
-opened_core opened = record { opened = opened; journal = []; words = replicate opened.threads Due }
+abbrev pub new_core : {S O : Type 0} → OpeningState S O → CoreState S O
+new_core opening = record { opening = opening; journal = []; words = replicate opening.threads Due }
 
 -- a core after a thread has said its word
 abbrev pub after_word : {S O : Type 0} → CoreState S O → ℕ → Option Event → CoreState S O
@@ -44,17 +45,14 @@ abbrev pub last_word : Word → Option Event
 last_word Due = None
 last_word (Said event) = event
 
--- the position of a journal and what the threads have said
-abbrev pub position_in : List Entry → List Word → Position
-position_in journal words = record { journal = journal; words = map last_word words }
-
--- the position of a core
+-- the position of a core: its journal and what the threads have said
 abbrev pub position : {S O : Type 0} → CoreState S O → Position
-position core = position_in core.journal core.words
+position core = record { journal = core.journal; words = map last_word core.words }
 
 -- the setup of a core: its two sources are known by what they answered when it was opened
-abbrev pub setup_by : {S O : Type 0} → (S → Source) → (O → Source) → CoreState S O → Setup
-setup_by selected other core = setup_in (selected core.opened.selected) (other core.opened.other) core.opened
+abbrev pub setup_by : {S O : Type 0} → Ghosts S → Ghosts O → CoreState S O → Setup
+setup_by selected_draws other_draws core =
+    setup_in (source_of selected_draws core.opening.selected) (source_of other_draws core.opening.other) core.opening
 
 -- the verdict of a core: none while a word is due
 abbrev pub verdict_of : {S O : Type 0} → Setup → CoreState S O → Option Verdict
@@ -76,11 +74,28 @@ abbrev pub IsAble : {S O : Type 0} → Setup → CoreState S O → ℕ → Type 
 IsAble setup core thread =
     IsSomeAnd (slice_index_or (position core).words thread None) (λ event. IsTrue (is_enabled (world_at setup (position core)) event))
 
--- a thread is granted the step of this event: no word is due, there is no verdict, the choice is the thread with this
--- mark, and the event that it announces is enabled
-pub record IsGrantedStep {S O : Type 0} (setup : Setup) (core : CoreState S O) (thread : ℕ) (event : Event) (forced : Bool) : Type 0 where
+-- the entry of a step of a thread: its event, with the world's reply
+abbrev pub step_by : {S O : Type 0} → Setup → CoreState S O → ℕ → Event → Bool → Entry
+step_by setup core thread event forced =
+    record { thread = thread; event = event; reply = reply (world_at setup (position core)) thread event; forced = forced }
+
+-- an entry is the step that a core grants: no word is due, there is no verdict, the choice is its thread with its mark,
+-- its event is what the thread announces and is enabled, and its reply is the world's
+pub record IsStep {S O : Type 0} (setup : Setup) (core : CoreState S O) (entry : Entry) : Type 0 where
   pub said : list_any is_due core.words ≡ false
-  pub word : slice_get core.words thread ≡ Some (Said (Some event))
   pub going : verdict_at setup (position core) ≡ None
-  pub chosen : choice setup (position core) ≡ Grant thread forced
-  pub enabled : IsTrue (is_enabled (world_at setup (position core)) event)
+  pub chosen : choice setup (position core) ≡ Grant entry.thread entry.forced
+  pub word : slice_get core.words entry.thread ≡ Some (Said (Some entry.event))
+  pub enabled : IsTrue (is_enabled (world_at setup (position core)) entry.event)
+  pub replied : entry.reply ≡ reply (world_at setup (position core)) entry.thread entry.event
+
+-- a thread is granted the step of this event with this mark
+abbrev pub IsGrantedStep : {S O : Type 0} → Setup → CoreState S O → ℕ → Event → Bool → Type 0
+IsGrantedStep setup core thread event forced = IsStep setup core (step_by setup core thread event forced)
+
+-- a core makes the step of a thread with this reply, and is then the next one
+pub record IsStepTo {S O : Type 0} (setup : Setup) (core : CoreState S O) (thread replied : ℕ) (next : CoreState S O) : Type 0 where
+  pub event : Event
+  pub forced : Bool
+  pub step : IsStep setup core (record { thread = thread; event = event; reply = replied; forced = forced })
+  pub after : next ≡ after_entry core (record { thread = thread; event = event; reply = replied; forced = forced })

@@ -1,8 +1,8 @@
 pub mod Core
-pub mod Decided
-pub mod Finished
+pub mod Decision
+pub mod Finish
 pub mod Inline
-pub mod Kept
-pub mod Opened
+pub mod Invariant
+pub mod Monitors
+pub mod Opening
 pub mod Run
-pub mod Watched

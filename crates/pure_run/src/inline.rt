@@ -1,16 +1,15 @@
 ghost use Rattle.std.specs.Prelude.{◌≡◌, ◌+◌, ◌≤◌, IfOk, IsSome, Some, length, map, replicate};
 ghost use Rattle.surw_base.specs.declared.limits.TheConstants.{THREADS};
-ghost use Rattle.run_rules.specs.Plan.{script_of, setup_of, IsValidPlan};
+ghost use Rattle.run_rules.specs.declared.plan.Plan.{Plan};
+ghost use Rattle.run_rules.specs.Plan.{script_of, IsValidPlan};
 ghost use Rattle.run_rules.specs.Run.{IsRun};
-ghost use Rattle.seed_draws.specs.Answers.{source_of};
 ghost use Rattle.selected_order.specs.KeepsOrder.{KeepsOrder};
-ghost use Rattle.pure_run.specs.declared.word.Word.TheVariants.{Due, Said};
-ghost use Rattle.pure_run.specs.Core.{granted_of, setup_by, verdict_of, IsAble};
+ghost use Rattle.pure_run.specs.declared.word.Word.TheVariants.{Due};
+ghost use Rattle.pure_run.specs.Core.{granted_of, setup_by, verdict_of};
 ghost use Rattle.pure_run.specs.Inline.{IsInline, said_by};
-ghost use Rattle.pure_run.specs.Opened.{opened_with};
 
 use crate::{Core, Plan, Run};
-use routine_kit::Routine;
+use routine_kit::{Routine, copies};
 use seed_draws::Draws;
 use std::alloc::Global;
 use surw_base::{OutOfMemory, ThreadNo};
@@ -22,8 +21,8 @@ pub fn run_inline<R: Routine, S: Draws, O: Draws>(
     plan: &Plan<R, S, O>,
 ) -> Result<Run, OutOfMemory>
     requires { IsValidPlan plan.now }
-    ensures run { IfOk result (IsRun (script_of R.announced R.after_reply (source_of S.Draws plan.now.selected) (source_of O.Draws plan.now.other) plan.now)) }
-    ensures order { IfOk result (KeepsOrder (script_of R.announced R.after_reply (source_of S.Draws plan.now.selected) (source_of O.Draws plan.now.other) plan.now)) }
+    ensures run { IfOk result (IsRun (script_of R.Routine S.Draws O.Draws plan.now)) }
+    ensures order { IfOk result (KeepsOrder (script_of R.Routine S.Draws O.Draws plan.now)) }
 {
     let mut core = Core::open(alloc, plan)?;
     let mut routines = copies(alloc, plan.routines.as_slice())?;
@@ -32,22 +31,11 @@ pub fn run_inline<R: Routine, S: Draws, O: Draws>(
     Ok(core.finish())
 }
 
-// Equal routines.
-fn copies<R: Routine>(alloc: Global, routines: &[R]) -> Result<Vec<R>, OutOfMemory>
-    ensures { IfOk result (λ copies. copies.items ≡ routines.now) }
-{
-    let mut copies = Vec::new(alloc);
-    for routine in routines {
-        copies.push(routine.copy(alloc)?)?;
-    }
-    Ok(copies)
-}
-
 // Says the first word of each thread.
 fn say_first_words<R: Routine, S: Draws, O: Draws>(core: &mut Core<S, O>, routines: &[R])
     requires few { length routines.now ≤ THREADS }
     requires due { core.old.words ≡ replicate (length routines.now) Due }
-    ensures { core.new ≡ record core.old { words = said_by R.announced routines.now } }
+    ensures { core.new ≡ record core.old { words = said_by R.Routine routines.now } }
 {
     for (thread, routine) in routines.iter().enumerate() {
         core.say(ThreadNo::new(thread as u8).unwrap(), routine.announce());
@@ -61,38 +49,31 @@ fn make_steps<R: Routine, S: Draws, O: Draws>(
     routines: &mut Vec<R>,
 )
     requires valid { IsValidPlan plan.now }
-    requires opened { core.old.opened ≡ opened_with plan.now }
-    requires inline { IsInline R.announced R.after_reply plan.now (source_of S.Draws plan.now.selected) (source_of O.Draws plan.now.other) core.old routines.old.items }
+    requires inline { IsInline R.Routine S.Draws O.Draws plan.now core.old routines.old.items }
     requires first { length core.old.journal ≡ 0 }
-    ensures opened { core.new.opened ≡ opened_with plan.now }
-    ensures inline { IsInline R.announced R.after_reply plan.now (source_of S.Draws plan.now.selected) (source_of O.Draws plan.now.other) core.new routines.new.items }
-    ensures stops { IsSome (verdict_of (setup_of (source_of S.Draws plan.now.selected) (source_of O.Draws plan.now.other) plan.now) core.new) }
+    ensures inline { IsInline R.Routine S.Draws O.Draws plan.now core.new routines.new.items }
+    ensures stops { IsSome (verdict_of (setup_by S.Draws O.Draws core.new) core.new) }
 {
     for _step in 0..plan.max_steps {
         let Some(thread) = core.granted() else {
             return;
         };
-        make_step(plan, core, routines, thread);
+        make_step(core, routines, thread);
     }
 }
 
 // Makes the step of the thread that is granted it, and says what its routine announces after the reply.
 fn make_step<R: Routine, S: Draws, O: Draws>(
-    plan: &Plan<R, S, O>,
     core: &mut Core<S, O>,
     routines: &mut Vec<R>,
     thread: ThreadNo,
 )
-    requires opened { core.old.opened ≡ opened_with plan.now }
-    requires inline { IsInline R.announced R.after_reply plan.now (source_of S.Draws plan.now.selected) (source_of O.Draws plan.now.other) core.old routines.old.items }
-    requires granted { granted_of (setup_by (source_of S.Draws) (source_of O.Draws) core.old) core.old ≡ Some thread }
-    requires able { IsAble (setup_by (source_of S.Draws) (source_of O.Draws) core.old) core.old thread }
-    ensures opened { core.new.opened ≡ opened_with plan.now }
-    ensures inline { IsInline R.announced R.after_reply plan.now (source_of S.Draws plan.now.selected) (source_of O.Draws plan.now.other) core.new routines.new.items }
-    ensures steps { length core.new.journal ≡ length core.old.journal + 1 }
+    requires said { core.old.words ≡ said_by R.Routine routines.old.items }
+    requires granted { granted_of (setup_by S.Draws O.Draws core.old) core.old ≡ Some thread }
+    ensures inline { (plan : Plan R S O) → IsInline R.Routine S.Draws O.Draws plan core.old routines.old.items
+        → IsInline R.Routine S.Draws O.Draws plan core.new routines.new.items }
+    ensures longer { length core.new.journal ≡ length core.old.journal + 1 }
 {
-    // The contract alone names the plan.
-    let _ = plan;
     let reply = core.perform(thread);
     let routine = &mut routines[usize::from(thread.get())];
     routine.take(reply);

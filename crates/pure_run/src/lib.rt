@@ -2,19 +2,23 @@
 #![tactic(auto)]
 
 mod core_state;
-mod deciding;
+mod history;
 mod inline;
 pub mod laws;
+mod monitors;
 mod next;
-mod opened;
+mod opening;
 mod run;
-mod watching;
+mod running;
+mod view;
 mod word;
 
 pub use core_state::Core;
+pub use history::History;
 pub use inline::run_inline;
 pub use next::Next;
-pub use opened::Opened;
+pub use opening::Opening;
 pub use run::Run;
 pub use run_rules::{Entry, Plan, Verdict};
+pub use running::Running;
 pub use word::Word;

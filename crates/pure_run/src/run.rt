@@ -1,6 +1,6 @@
 ghost use Rattle.std.specs.Prelude.{◌≡◌, ◌<◌, ◌≤◌, All, is_some, Some, length, map, slice_get, slice_index_or, None};
 ghost use Rattle.std.specs.List.{list_any};
-ghost use Rattle.surw_base.specs.declared.limits.TheConstants.{THREADS, STEPS};
+ghost use Rattle.surw_base.specs.declared.limits.TheConstants.{MONITORS, THREADS, STEPS};
 ghost use Rattle.event_class.specs.Selection.{has};
 ghost use Rattle.run_rules.specs.declared.entry.Entry.{Entry};
 ghost use Rattle.run_rules.specs.declared.verdict.Verdict.TheVariants.{Ended};
@@ -11,7 +11,7 @@ use arrayvec::ArrayVec;
 use event_class::{Event, Selection};
 use run_rules::{Entry, Verdict};
 use std::marker::Model;
-use surw_base::ThreadNo;
+use surw_base::{THREADS, ThreadNo};
 use test_world::{Monitor, World};
 
 /// What a run was. A contract sees a record of its parts.
@@ -20,7 +20,7 @@ pub struct Run {
     journal: Vec<Entry>,
     world: World,
     verdict: Verdict,
-    words: ArrayVec<Option<Event>, 16>,
+    words: ArrayVec<Option<Event>, THREADS>,
     bent: u64,
     selection: Selection,
     monitors: Vec<Monitor>,
@@ -33,7 +33,16 @@ impl Model for Run {
 
     ghost Value = { Outcome };
 
-    ghost view = { λ r. record { journal = r.journal.items; world = r.world; verdict = r.verdict; words = r.words.items; bent = r.bent; selection = r.selection; monitors = r.monitors.items; failed = r.failed.items } };
+    ghost view = { λ r. record {
+      journal = r.journal.items;
+      world = r.world;
+      verdict = r.verdict;
+      words = r.words.items;
+      bent = r.bent;
+      selection = r.selection;
+      monitors = r.monitors.items;
+      failed = r.failed.items;
+    } };
 
     ghost invariant = { λ r. IsRunInside r.journal.items r.monitors.items r.failed.items };
 }
@@ -44,17 +53,26 @@ impl Run {
         journal: Vec<Entry>,
         world: World,
         verdict: Verdict,
-        words: ArrayVec<Option<Event>, 16>,
+        words: ArrayVec<Option<Event>, THREADS>,
         bent: u64,
         selection: Selection,
         monitors: Vec<Monitor>,
         mut failed: Vec<Option<u32>>,
     ) -> Run
         requires short { length journal.items ≤ STEPS }
-        requires few { length monitors.items ≤ 16 }
+        requires few { length monitors.items ≤ MONITORS }
         requires each { length failed.items ≡ length monitors.items }
         requires watched { All (CanWatch world.size) monitors.items }
-        ensures { result ≡ record { journal = journal.items; world = world; verdict = verdict; words = words.items; bent = bent; selection = selection; monitors = monitors.items; failed = at_end world (length journal.items) verdict failed.items monitors.items } }
+        ensures { result ≡ record {
+          journal = journal.items;
+          world = world;
+          verdict = verdict;
+          words = words.items;
+          bent = bent;
+          selection = selection;
+          monitors = monitors.items;
+          failed = at_end world (length journal.items) verdict failed.items monitors.items;
+        } }
     {
         let steps = journal.len() as u32;
         if let Verdict::Ended = verdict {
@@ -124,10 +142,10 @@ impl Run {
         self.selection.has(&self.journal[k as usize].event)
     }
 
-    /// How many monitors the run had, at most 16.
+    /// How many monitors the run had, at most `MONITORS`.
     pub fn monitors(&self) -> usize
         ensures number { result ≡ length self.now.monitors }
-        ensures most { result ≤ 16 }
+        ensures most { result ≤ MONITORS }
     {
         self.monitors.len()
     }

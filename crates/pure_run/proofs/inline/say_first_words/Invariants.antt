@@ -6,6 +6,6 @@ use Rattle.pure_run.proofs.inline.say_first_words.Given as goal
 
 abbrev pub invariant-loop-thread : goal.invariant-loop-thread
 invariant-loop-thread g l = record {
-  core : l.core ≡ record l.initial.core { words = said_by g.R.Routine.announced (take l.thread l.routines) ++ replicate (length l.routines - l.thread) Due };
+  core : l.core ≡ record l.initial.core { words = said_by g.R.Routine (take l.thread l.routines) ++ replicate (length l.routines - l.thread) Due };
   few : length l.routines ≤ THREADS;
 }

@@ -1,0 +1,90 @@
+use Rattle.std.proofs.Common.{All, false, map, replicate, ap, sym, subst, ◌∙◌, arith}
+use Rattle.seed_draws.specs.Answers.{source_of}
+use Rattle.test_world.specs.Monitor.{CanWatch}
+use Rattle.test_world.specs.Size.{HasNoDevices, IsWithinLimits}
+use Rattle.test_world.specs.World.{new_world}
+use Rattle.walk_rules.specs.declared.seen.Seen.TheVariants as seen
+use Rattle.run_rules.specs.Setup.{IsValid}
+use Rattle.pure_run.specs.declared.next.Next.TheVariants.{Due}
+use Rattle.pure_run.specs.declared.running.Running.{Running}
+use Rattle.pure_run.specs.Core.{CoreState, new_core, setup_by}
+use Rattle.pure_run.specs.Decision.{decision}
+use Rattle.pure_run.specs.Invariant.{AreParts, IsKept}
+use Rattle.pure_run.specs.Monitors.{failed_in}
+use Rattle.pure_run.proofs.Decision.{can-decide, core-decided}
+use Rattle.pure_run.proofs.NewCore.{kept-new, parts-new}
+use Rattle.pure_run.proofs.running.Running.open.Given.{Over}
+use Rattle.pure_run.proofs.running.Running.open.Goals.{After-new-view, Start}
+use Rattle.pure_run.proofs.running.Running.open.Goals as goal
+
+abbrev core : (g : Over) (c : Start g) → CoreState g.row.S.Denot g.row.O.Denot
+core g c = new_core c.args.opening.now
+
+valid : (g : Over) (c : Start g) → IsValid (setup_by g.S.Draws g.O.Draws (core g c))
+valid g c = c.requires.valid (source_of g.S.Draws c.args.opening.now.selected) (source_of g.O.Draws c.args.opening.now.other)
+
+pub new-requires-clause-limits : goal.new-requires-clause-limits
+new-requires-clause-limits g c = subst (λ size. IsWithinLimits size) (sym c.size.ensures) (valid g (goal.at.new-requires-clause-limits g c).Start).limits
+
+pub new-requires-clause-no_devices : goal.new-requires-clause-no_devices
+new-requires-clause-no_devices g c = subst (λ size. HasNoDevices size) (sym c.size.ensures) (valid g (goal.at.new-requires-clause-no_devices g c).Start).no_devices
+
+pub places_at_start-requires : goal.places_at_start-requires
+places_at_start-requires g c =
+    subst (λ size. All (CanWatch size) c.monitors.result.now) (sym (ap (λ w. w.size) c.in_ok-world.ensures ∙ c.size.ensures))
+    (subst (λ m. All (CanWatch c.args.opening.now.size) m) (sym c.monitors.ensures) (valid g (goal.at.places_at_start-requires g c).Start).watched)
+
+pub new-view-requires : goal.new-view-requires
+new-view-requires g c =
+    let most = (valid g (goal.at.new-view-requires g c).Start).threads in
+    omega (arith, most, c.threads-threads.ensures)
+
+-- the parts that are decided by
+abbrev running : (g : Over) (c : After-new-view g) → Running g.row.S.Denot g.row.O.Denot
+running g c = record {
+  world = c.in_ok-world.world;
+  due = c.threads-threads.result;
+  view = c.new-view.result;
+  walk = c.in_ok-walk.walk;
+  selected = c.in_ok-selected.selected;
+  other = c.in_ok-other.other;
+  failed = c.in_ok-failed.failed;
+  next = Due;
+}
+
+kept : (g : Over) (c : Start g) → IsKept (setup_by g.S.Draws g.O.Draws (core g c)) (core g c)
+kept g c = kept-new g.S.Draws g.O.Draws c.args.opening.now (valid g c)
+
+ready : (g : Over) (c : After-new-view g) → AreParts g.S.Draws g.O.Draws (setup_by g.S.Draws g.O.Draws (new_core c.args.opening.now)) (new_core c.args.opening.now) false (running g c)
+ready g c =
+    let opening = c.args.opening.now in
+    let world = c.in_ok-world.ensures ∙ ap new_world c.size.ensures in
+    parts-new g.S.Draws g.O.Draws opening c.requires.fresh (running g c) world c.threads-threads.ensures
+    (c.new-view.ensures ∙ ap (λ n. replicate n seen.Over) c.threads-threads.ensures)
+    (c.in_ok-walk.ensures ∙ c.walk.ensures) (c.in_ok-selected.ensures ∙ c.selected.ensures) (c.in_ok-other.ensures ∙ c.other.ensures)
+    (c.in_ok-failed.ensures
+    ∙ ap (λ w. map (failed_in w 0) c.monitors.result.now) world
+    ∙ ap (λ m. map (failed_in (new_world opening.size) 0) m) c.monitors.ensures)
+
+pub decide-running-requires-clause-each : goal.decide-running-requires-clause-each
+decide-running-requires-clause-each g c =
+    let at = goal.at.decide-running-requires-clause-each g c in
+    (can-decide g.S.Draws g.O.Draws (core g at.Start) (running g at.After-new-view) (ready g at.After-new-view) (kept g at.Start)).each
+
+pub decide-running-requires-clause-chosen : goal.decide-running-requires-clause-chosen
+decide-running-requires-clause-chosen g c =
+    let at = goal.at.decide-running-requires-clause-chosen g c in
+    (can-decide g.S.Draws g.O.Draws (core g at.Start) (running g at.After-new-view) (ready g at.After-new-view) (kept g at.Start)).chosen
+
+pub decide-running-requires-clause-most : goal.decide-running-requires-clause-most
+decide-running-requires-clause-most g c =
+    let most = (valid g (goal.at.decide-running-requires-clause-most g c).Start).most in
+    omega (arith, most, c.max_steps.ensures)
+
+pub returns : goal.returns
+returns g c =
+    let at = goal.at.returns g c in
+    core-decided g.S.Draws g.O.Draws (core g at.Start) (running g at.After-new-view) (ready g at.After-new-view) (kept g at.Start)
+    c.decide-running.result c.decide-running.new.self
+    (c.decide-running.ensures.next ∙ ap (λ n. decision g.S.Draws g.O.Draws 0 n (running g at.After-new-view)) c.max_steps.ensures)
+    c.decide-running.ensures.walk c.decide-running.ensures.selected c.decide-running.ensures.other c.decide-running.ensures.rest c.decide-running.ensures.able

@@ -1,0 +1,208 @@
+ghost use Rattle.std.specs.Prelude.{◌≡◌, ◌<◌, ◌≤◌, IfOk, IfSome, None, Some, length, slice_get};
+ghost use Rattle.surw_base.specs.declared.limits.TheConstants.{STEPS};
+ghost use Rattle.run_rules.specs.declared.verdict.Verdict.{Verdict};
+ghost use Rattle.run_rules.specs.Setup.{IsValid};
+ghost use Rattle.seed_draws.specs.Answers.{Source, after_bounds};
+ghost use Rattle.walk_rules.specs.State.{new_walk};
+ghost use Rattle.walk_rules.specs.Walk.{AreChosenUnder};
+ghost use Rattle.pure_run.specs.declared.next.Next.TheVariants.{Stopped};
+ghost use Rattle.pure_run.specs.declared.word.Word.TheVariants.{Due};
+ghost use Rattle.pure_run.specs.Core.{new_core, after_word, after_entry, position, setup_by, granted_of, IsGrantedStep, IsStep};
+ghost use Rattle.pure_run.specs.Decision.{bounds_by, decision, is_drawn_at, pick_by, walk_then};
+ghost use Rattle.pure_run.specs.Finish.{outcome_at};
+ghost use Rattle.pure_run.specs.Invariant.{IsAbleNext, IsCore};
+ghost use Rattle.pure_run.specs.Opening.{setup_in};
+
+use crate::monitors::{places_at_start, watch};
+use crate::view::{look_after, look_at};
+use crate::{History, Next, Opening, Run};
+use event_class::Event;
+use run_rules::{Entry, Verdict};
+use seed_draws::Draws;
+use std::alloc::Global;
+use surw_base::{OutOfMemory, ThreadNo};
+use test_world::World;
+use walk_rules::{Announced, Grant, Picked, Seen, Walk};
+
+/// What a core has at hand beside its history, which says all of it: so no call goes over the journal again.
+#[derive(Drop)]
+pub struct Running<S: Draws, O: Draws> {
+    world: World,
+    // How many words are due.
+    due: usize,
+    view: Announced,
+    walk: Walk,
+    selected: S,
+    other: O,
+    // Where each monitor failed so far.
+    failed: Vec<Option<u32>>,
+    next: Next,
+}
+
+impl<S: Draws, O: Draws> Running<S, O> {
+    // The running parts of a run before its first word. Without threads the verdict is there.
+    pub(crate) fn open(alloc: Global, opening: &Opening<S, O>) -> Result<Running<S, O>, OutOfMemory>
+        requires valid { (selected others : Source) → IsValid (setup_in selected others opening.now) }
+        requires fresh { opening.now.walk ≡ new_walk opening.now.walk.rule opening.now.walk.counts }
+        ensures { IfOk result (IsCore S.Draws O.Draws (new_core opening.now)) }
+    {
+        let world = World::new(alloc, opening.size())?;
+        let failed = places_at_start(alloc, &world, opening.monitors())?;
+        let walk = opening.walk().copy(alloc)?;
+        let selected = opening.selected().copy(alloc)?;
+        let other = opening.other().copy(alloc)?;
+        let threads = opening.threads();
+        let view = Announced::new(threads);
+        let mut running = Running {
+            world,
+            due: threads,
+            view,
+            walk,
+            selected,
+            other,
+            failed,
+            next: Next::Due,
+        };
+        running.next = running.decide(0, opening.max_steps());
+        Ok(running)
+    }
+
+    // What comes next: a word while some are due, else a verdict or the pick of the strategy.
+    #[tactic(auto, unfolding(seed_draws::specs::Answers::after_bounds))]
+    fn decide(&mut self, step: u32, max_steps: u32) -> Next
+        requires each { length self.old.view ≡ length self.old.walk.counts }
+        requires step { step ≡ self.old.walk.steps }
+        requires short { step ≤ max_steps }
+        requires most { max_steps ≤ STEPS }
+        requires free { self.old.walk.waiting ≡ None }
+        requires chosen { AreChosenUnder self.old.walk.rule self.old.view }
+        ensures next { result ≡ decision S.Draws O.Draws step max_steps self.old }
+        ensures walk { self.new.walk ≡ walk_then (is_drawn_at result) (pick_by S.Draws O.Draws self.old) self.old.walk }
+        ensures selected { self.new.selected ≡ after_bounds S.Draws self.old.selected
+            (bounds_by (is_drawn_at result) (pick_by S.Draws O.Draws self.old).selected_bounds) }
+        ensures other { self.new.other ≡ after_bounds O.Draws self.old.other
+            (bounds_by (is_drawn_at result) (pick_by S.Draws O.Draws self.old).other_bounds) }
+        ensures rest { self.new ≡ record self.old { walk = self.new.walk; selected = self.new.selected; other = self.new.other } }
+        ensures able { IsAbleNext self.old.view result }
+    {
+        if self.due > 0 {
+            return Next::Due;
+        }
+        if let Some((thread, counted, seen)) = self.walk.wrong(&self.view) {
+            return Next::Stopped(Verdict::WrongCount {
+                step,
+                thread,
+                counted,
+                seen,
+            });
+        }
+        if self.view.announcing() == 0 {
+            return Next::Stopped(Verdict::Ended);
+        }
+        if step == max_steps {
+            return Next::Stopped(Verdict::StepLimit { step });
+        }
+        if self.view.able() == 0 {
+            return Next::Stopped(Verdict::Deadlock { step });
+        }
+        match self
+            .walk
+            .pick(step, &self.view, &mut self.selected, &mut self.other)
+        {
+            Picked::Grant { thread, forced } => Next::Granted(Grant { thread, forced }),
+            Picked::Stop(fault) => Next::Stopped(Verdict::Draw { step, fault }),
+        }
+    }
+
+    // The parts after the word of a thread that is due. With the last word that is due it is decided what comes next.
+    pub(crate) fn say(&mut self, history: &History<S, O>, thread: ThreadNo, event: Option<Event>)
+        requires core { IsCore S.Draws O.Draws history.now self.old }
+        requires due { slice_get history.now.words thread ≡ Some Due }
+        ensures { IsCore S.Draws O.Draws (after_word history.now thread event) self.new }
+    {
+        let opening = history.opening();
+        let seen = look_at(&self.world, opening.selection(), event);
+        self.view.set(thread, seen);
+        self.due -= 1;
+        self.next = self.decide(history.len(), opening.max_steps());
+    }
+
+    // The event of the thread that is granted its step, and whether the step is forced.
+    fn grant(&self, history: &History<S, O>, thread: ThreadNo) -> (Event, bool)
+        requires core { IsCore S.Draws O.Draws history.now self.now }
+        requires granted { granted_of (setup_by S.Draws O.Draws history.now) history.now ≡ Some thread }
+        ensures { IsGrantedStep (setup_by S.Draws O.Draws history.now) history.now thread result.0 result.1 }
+    {
+        let Next::Granted(grant) = self.next else {
+            unreachable!()
+        };
+        let Some(event) = history.words()[usize::from(thread.get())].last() else {
+            unreachable!()
+        };
+        (event, grant.forced)
+    }
+
+    // The entry of the step that is granted, and the parts after it: the next word of its thread is due.
+    pub(crate) fn perform(&mut self, history: &History<S, O>, thread: ThreadNo) -> Entry
+        requires core { IsCore S.Draws O.Draws history.now self.old }
+        requires granted { granted_of (setup_by S.Draws O.Draws history.now) history.now ≡ Some thread }
+        ensures thread { result.thread ≡ thread }
+        ensures step { IsStep (setup_by S.Draws O.Draws history.now) history.now result }
+        ensures core { IsCore S.Draws O.Draws (after_entry history.now result) self.new }
+    {
+        let (event, forced) = self.grant(history, thread);
+        let opening = history.opening();
+        let selection = opening.selection();
+        let reply = self.world.apply(thread, &event);
+        self.walk.done(thread, selection.has(&event), forced);
+        watch(
+            &mut self.failed,
+            &self.world,
+            history.len() + 1,
+            opening.monitors(),
+        );
+        look_after(
+            &mut self.view,
+            &self.world,
+            selection,
+            history.words(),
+            &event,
+        );
+        self.view.set(thread, Seen::Over);
+        self.due = 1;
+        self.next = Next::Due;
+        Entry {
+            thread,
+            event,
+            reply,
+            forced,
+        }
+    }
+
+    // What comes next.
+    pub(crate) fn next(&self) -> Next
+        ensures { result ≡ self.now.next }
+    {
+        self.next
+    }
+
+    // The run of a history whose verdict this is.
+    pub(crate) fn finish(self, history: History<S, O>, verdict: Verdict) -> Run
+        requires core { IsCore S.Draws O.Draws history self }
+        requires stopped { self.next ≡ Stopped verdict }
+        ensures { result ≡ outcome_at (setup_by S.Draws O.Draws history) (position history) verdict }
+    {
+        let Running {
+            world,
+            selected,
+            other,
+            failed,
+            ..
+        } = self;
+        let bent = selected.bent().saturating_add(other.bent());
+        let (journal, words, selection, monitors) = history.into_parts();
+        Run::new(
+            journal, world, verdict, words, bent, selection, monitors, failed,
+        )
+    }
+}
