@@ -1,8 +1,4 @@
-pub mod Each
-pub mod Finding
-pub mod LineTexts
-pub mod SelectTexts
-pub mod Texts
+pub mod Items
 pub mod Trees
-pub mod Unknown
+pub mod UnknownKeys
 pub mod Watches

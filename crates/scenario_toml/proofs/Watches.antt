@@ -9,12 +9,13 @@ use Rattle.std.specs.Str.{bytes_eq}
 use Rattle.surw_base.proofs.Prefixes.{number-some, number-again}
 use Rattle.surw_base.specs.Prefix.{IsLongestPrefix, HasNoPrefix}
 use Rattle.surw_base.specs.Number.{IsNumberText}
-use Rattle.scenario_toml.proofs.Finding.{found-at, read-found}
-use Rattle.scenario_toml.proofs.Texts.{words-prefix, words-last, no-space-decimal, value-decimal, same-bytes, bytes-same}
+use Rattle.surw_base.proofs.Searches.{found-at, read-found}
+use Rattle.surw_base.proofs.Tokens.{tokens-prefix, tokens-last, no-space-decimal, value-decimal, same-bytes, bytes-same}
+use Rattle.surw_base.specs.Tokens.{tokens, number_at}
 use Rattle.scenario_toml.specs.declared.watch.Watch.{Watch}
 use Rattle.scenario_toml.specs.declared.watch.Watch.TheVariants.{WriteAhead, LogWhole, Expect, CellEnd}
 use Rattle.scenario_toml.specs.WatchText.{AreTwoNumbers, IsWatchText, IsSmall}
-use Rattle.scenario_toml.specs.Words.{words, number_at, is_small, watches, is_watch, watch_text, is_text_of_watch, watch_of}
+use Rattle.scenario_toml.specs.Texts.{is_small, watches, is_watch, watch_text, is_text_of_watch, watch_of}
 
 -- two numbers begin with one
 pub some-number : (text : List ℕ) (m n : ℕ) → HasNoPrefix IsNumberText text → AreTwoNumbers text m n → ⊥
@@ -62,28 +63,28 @@ from-test text watch is =
     record { text = bytes-same (watch_text watch) text p.0; below = test-small watch p.1 }
 
 -- the parts of the text with two numbers
-parts : (text : List ℕ) (cell value : ℕ) → IsWatchText text (CellEnd cell value) → words text ≡ codes "cell_end" ∷ decimal cell ∷ decimal value ∷ []
+parts : (text : List ℕ) (cell value : ℕ) → IsWatchText text (CellEnd cell value) → tokens text ≡ codes "cell_end" ∷ decimal cell ∷ decimal value ∷ []
 parts text cell value is =
-    ap words is.text
-    ∙ words-prefix (codes "cell_end") (decimal cell ++ 32 ∷ decimal value)
+    ap tokens is.text
+    ∙ tokens-prefix (codes "cell_end") (decimal cell ++ 32 ∷ decimal value)
     (All-from_recursion (λ b. (b == 32) ≡ false) (codes "cell_end") (refl, (refl, (refl, (refl, (refl, (refl, (refl, (refl, tt)))))))))
-    ∙ ap (λ l. codes "cell_end" ∷ l) (words-prefix (decimal cell) (decimal value) (no-space-decimal cell is.below.0))
-    ∙ ap (λ l. codes "cell_end" ∷ decimal cell ∷ l) (words-last (decimal value) (no-space-decimal value is.below.1))
+    ∙ ap (λ l. codes "cell_end" ∷ l) (tokens-prefix (decimal cell) (decimal value) (no-space-decimal cell is.below.0))
+    ∙ ap (λ l. codes "cell_end" ∷ decimal cell ∷ l) (tokens-last (decimal value) (no-space-decimal value is.below.1))
 
 -- what has a text is among what is looked at
-among : (text : List ℕ) (watch : Watch) → IsWatchText text watch → IsSome (find (is_text_of_watch text) (watches (words text)))
-among text WriteAhead is = found-at (is_text_of_watch text) (watches (words text)) 0 WriteAhead refl (test-from text WriteAhead is)
-among text LogWhole is = found-at (is_text_of_watch text) (watches (words text)) 1 LogWhole refl (test-from text LogWhole is)
-among text Expect is = found-at (is_text_of_watch text) (watches (words text)) 2 Expect refl (test-from text Expect is)
+among : (text : List ℕ) (watch : Watch) → IsWatchText text watch → IsSome (find (is_text_of_watch text) (watches (tokens text)))
+among text WriteAhead is = found-at (is_text_of_watch text) (watches (tokens text)) 0 WriteAhead refl (test-from text WriteAhead is)
+among text LogWhole is = found-at (is_text_of_watch text) (watches (tokens text)) 1 LogWhole refl (test-from text LogWhole is)
+among text Expect is = found-at (is_text_of_watch text) (watches (tokens text)) 2 Expect refl (test-from text Expect is)
 among text (CellEnd cell value) is =
-    let first : number_at (words text) 1 ≡ cell = ap (λ l. number_at l 1) (parts text cell value is) ∙ value-decimal cell is.below.0 in
-    let second : number_at (words text) 2 ≡ value = ap (λ l. number_at l 2) (parts text cell value is) ∙ value-decimal value is.below.1 in
-    found-at (is_text_of_watch text) (watches (words text)) 3 (CellEnd (number_at (words text) 1) (number_at (words text) 2)) refl
+    let first : number_at (tokens text) 1 ≡ cell = ap (λ l. number_at l 1) (parts text cell value is) ∙ value-decimal cell is.below.0 in
+    let second : number_at (tokens text) 2 ≡ value = ap (λ l. number_at l 2) (parts text cell value is) ∙ value-decimal value is.below.1 in
+    found-at (is_text_of_watch text) (watches (tokens text)) 3 (CellEnd (number_at (tokens text) 1) (number_at (tokens text) 2)) refl
     ((λ i. is_text_of_watch text (CellEnd (first i) (second i))) ∙ test-from text (CellEnd cell value) is)
 
 -- so a reader of the texts answers what the search finds
 pub watch-read : (text : List ℕ) (answer : Option Watch) → IfSome answer (IsWatchText text)
     → ((watch : Watch) → IsWatchText text watch → answer ≡ Some watch) → answer ≡ watch_of text
 unfolding watch_of
-watch-read text None found only = read-found (is_text_of_watch text) (watches (words text)) None tt (λ x passes. only x (from-test text x passes))
-watch-read text (Some watch) found only = read-found (is_text_of_watch text) (watches (words text)) (Some watch) (among text watch found) (λ x passes. only x (from-test text x passes))
+watch-read text None found only = read-found (is_text_of_watch text) (watches (tokens text)) None tt (λ x passes. only x (from-test text x passes))
+watch-read text (Some watch) found only = read-found (is_text_of_watch text) (watches (tokens text)) (Some watch) (among text watch found) (λ x passes. only x (from-test text x passes))

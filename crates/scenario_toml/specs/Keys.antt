@@ -1,6 +1,7 @@
 -- The keys whose values are whole numbers, one line each: its name, the least and the most number, and the default.
-use Rattle.std.specs.Prelude.{ℕ, ℤ, pos, List, ◌++◌, ◌∷◌, Option, None, Some, codes}
+use Rattle.std.specs.Prelude.{ℕ, ℤ, ◌-◌, ◌^◌, pos, List, ◌++◌, ◌∷◌, Option, None, Some, codes}
 use Rattle.std.specs.Fmt.{decimal}
+use Rattle.surw_base.specs.declared.limits.TheConstants.{STEPS, DEPTH, CELLS, LOCKS, TIMES}
 
 -- what holds of such a key; where there is no default it has to be there
 pub record NumberRule : Type 0 where
@@ -15,24 +16,24 @@ rule name least most default = record { name = name; least = pos least; most = p
 
 -- the greatest number that a file can have
 abbrev pub greatest : ℕ
-greatest = 9223372036854775807
+greatest = 2 ^ 63 - 1
 
 -- the top table
 abbrev pub max_steps : NumberRule
-max_steps = rule (codes "max_steps") 1 65536 (Some 65536)
+max_steps = rule (codes "max_steps") 1 STEPS (Some STEPS)
 
 abbrev pub seed : NumberRule
-seed = rule (codes "seed") 0 9223372036854775807 (Some 0)
+seed = rule (codes "seed") 0 greatest (Some 0)
 
 abbrev pub depth : NumberRule
-depth = rule (codes "depth") 1 16 (Some 3)
+depth = rule (codes "depth") 1 DEPTH (Some 3)
 
 -- the table `world`, which has no page cache, disk and log yet
 abbrev pub cells : NumberRule
-cells = rule (codes "cells") 0 64 (Some 0)
+cells = rule (codes "cells") 0 CELLS (Some 0)
 
 abbrev pub locks : NumberRule
-locks = rule (codes "locks") 0 8 (Some 0)
+locks = rule (codes "locks") 0 LOCKS (Some 0)
 
 abbrev pub frames : NumberRule
 frames = rule (codes "frames") 0 0 (Some 0)
@@ -45,14 +46,14 @@ slots = rule (codes "slots") 0 0 (Some 0)
 
 -- a thread that runs lines
 abbrev pub times : NumberRule
-times = rule (codes "times") 1 4096 (Some 1)
+times = rule (codes "times") 1 TIMES (Some 1)
 
 -- a thread that adds to a cell
 abbrev pub cell : NumberRule
-cell = rule (codes "cell") 0 63 None
+cell = rule (codes "cell") 0 (CELLS - 1) None
 
 abbrev pub tries : NumberRule
-tries = rule (codes "tries") 1 4096 (Some 1)
+tries = rule (codes "tries") 1 TIMES (Some 1)
 
 -- the name of an array's item: the array's name, a dot and the item's place
 abbrev pub key_at : List ℕ → ℕ → List ℕ

@@ -10,7 +10,7 @@ use Rattle.scenario_toml.specs.declared.watch.Watch.TheVariants.{WriteAhead, Log
 use Rattle.scenario_toml.specs.Faults.{and_then}
 use Rattle.scenario_toml.specs.Keys.{key_at}
 use Rattle.scenario_toml.specs.Values.{text_item}
-use Rattle.scenario_toml.specs.Words.{watch_of, watch_text}
+use Rattle.scenario_toml.specs.Texts.{watch_of, watch_text}
 
 -- what is watched for, whose cell need not be there yet
 abbrev pub watch_item : List ℕ → ℕ → Data → Result Watch ScenarioFault
@@ -22,7 +22,9 @@ monitor_of cells place WriteAhead = Ok monitor.WriteAhead
 monitor_of cells place LogWhole = Ok monitor.LogWhole
 monitor_of cells place Expect = Ok monitor.Expect
 monitor_of cells place (CellEnd cell value) =
-    if ltb cell cells then Ok (monitor.CellEnd cell value) else Err (Name (key_at (codes "monitors") place) (watch_text (CellEnd cell value)))
+    if ltb cell cells
+    then Ok (monitor.CellEnd cell value)
+    else Err (Name (key_at (codes "monitors") place) (watch_text (CellEnd cell value)))
 
 -- the monitors in order
 unfoldable pub monitors_from : ℕ → ℕ → List Watch → Result (List Monitor) ScenarioFault

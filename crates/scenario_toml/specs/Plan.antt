@@ -1,5 +1,6 @@
 -- The plan of a scenario.
 use Rattle.std.specs.Prelude.{◌≡◌, ℕ, ◌≤◌, List, [], ◌∷◌, Option, None, Some, IfSome}
+use Rattle.surw_base.specs.declared.limits.TheConstants.{DEPTH}
 use Rattle.event_class.specs.declared.pickable.Pickable.{Pickable}
 use Rattle.event_class.specs.declared.pickable.Pickable.TheVariants.{Every}
 use Rattle.routine_kit.specs.declared.any_routine.AnyRoutine.{AnyRoutine}
@@ -40,9 +41,9 @@ abbrev pub selection_by : Strategy → List Pickable → List Pickable
 selection_by Urw select = Every ∷ []
 selection_by _ select = select
 
--- the depth of a choice, where it has one, is from 1 to 16
+-- the depth of a choice, where it has one, is from 1 to `DEPTH`
 abbrev pub HasDepth : Choice → Type 0
-HasDepth choice = IfSome choice.depth (λ depth. (1 ≤ depth) × (depth ≤ 16))
+HasDepth choice = IfSome choice.depth (λ depth. (1 ≤ depth) × (depth ≤ DEPTH))
 
 -- a tape of which nothing is taken
 abbrev pub whole : List ℕ → Tape

@@ -11,7 +11,7 @@ use Rattle.scenario_toml.specs.Monitors.{monitors_from}
 use Rattle.scenario_toml.specs.State.{ScenarioState}
 use Rattle.scenario_toml.specs.Tapes.{tapes}
 use Rattle.scenario_toml.specs.Thread.{threads}
-use Rattle.scenario_toml.specs.Top.{top_names, settings, lists, parts}
+use Rattle.scenario_toml.specs.TopTable.{top_names, settings, lists, parts}
 use Rattle.scenario_toml.specs.Values.{only}
 use Rattle.scenario_toml.specs.World.{world}
 

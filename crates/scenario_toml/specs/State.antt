@@ -1,6 +1,6 @@
 -- What a scenario is seen as.
 use Rattle.std.specs.Prelude.{◌≡◌, ℕ, ◌≤◌, List, All, length, sum}
-use Rattle.surw_base.specs.declared.limits.TheConstants.{THREADS, STEPS}
+use Rattle.surw_base.specs.declared.limits.TheConstants.{THREADS, STEPS, MONITORS, DEPTH}
 use Rattle.event_class.specs.declared.pickable.Pickable.{Pickable}
 use Rattle.routine_kit.specs.declared.any_routine.AnyRoutine.{AnyRoutine}
 use Rattle.test_world.specs.declared.monitor.Monitor.{Monitor}
@@ -26,7 +26,7 @@ pub record ScenarioState : Type 0 where
 -- what holds of every scenario: a run can be made of it
 pub record IsScenario (s : ScenarioState) : Type 0 where
   pub depth_some : 1 ≤ s.depth
-  pub depth_most : s.depth ≤ 16
+  pub depth_most : s.depth ≤ DEPTH
   pub steps_some : 1 ≤ s.max_steps
   pub steps_most : s.max_steps ≤ STEPS
   pub limits : IsWithinLimits s.size
@@ -34,7 +34,7 @@ pub record IsScenario (s : ScenarioState) : Type 0 where
   pub threads : length s.routines ≤ THREADS
   pub counted : length s.counts ≡ length s.routines
   pub few : sum s.counts ≤ STEPS
-  pub watchers : length s.monitors ≤ 16
+  pub watchers : length s.monitors ≤ MONITORS
   pub watched : All (CanWatch s.size) s.monitors
   pub selected_few : length s.selected ≤ STEPS
   pub other_few : length s.other ≤ STEPS

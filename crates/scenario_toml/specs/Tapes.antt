@@ -1,5 +1,6 @@
 -- The table `tapes`.
-use Rattle.std.specs.Prelude.{List, ℕ, [], ◌∷◌, pos, Result, Ok, codes}
+use Rattle.std.specs.Prelude.{List, ℕ, [], ◌∷◌, ◌++◌, pos, Result, Ok, codes}
+use Rattle.surw_base.specs.declared.limits.TheConstants.{STEPS}
 use Rattle.toml.specs.Data.{Data, Members, get_member}
 use Rattle.scenario_toml.specs.declared.fault.ScenarioFault.{ScenarioFault}
 use Rattle.scenario_toml.specs.Faults.{and_then}
@@ -15,10 +16,14 @@ pub record Entries : Type 0 where
 abbrev pub entry_item : List ℕ → ℕ → Data → Result ℕ ScenarioFault
 entry_item = number_item (pos greatest)
 
--- the keys in their order; each is empty by default
+-- the entries of the tape of this name, and none where it is absent
+abbrev pub entries_in : List ℕ → Members → Result (List ℕ) ScenarioFault
+entries_in name table = list_or [] entry_item (codes "tapes." ++ name) STEPS (get_member name table)
+
+-- the keys in their order
 unfoldable pub tapes : Members → Result Entries ScenarioFault
 tapes table =
     and_then (only (codes "tapes.") (codes "selected" ∷ codes "other" ∷ []) table) (λ _.
-    and_then (list_or [] entry_item (codes "tapes.selected") 65536 (get_member (codes "selected") table)) (λ selected.
-    and_then (list_or [] entry_item (codes "tapes.other") 65536 (get_member (codes "other") table)) (λ other.
+    and_then (entries_in (codes "selected") table) (λ selected.
+    and_then (entries_in (codes "other") table) (λ other.
     Ok (record { selected = selected; other = other }))))

@@ -1,5 +1,6 @@
 -- The tables of `thread`.
 use Rattle.std.specs.Prelude.{List, ℕ, [], ◌∷◌, ◌++◌, Option, None, Some, Result, Ok, codes}
+use Rattle.surw_base.specs.declared.limits.TheConstants.{LINES}
 use Rattle.toml.specs.Data.{Data, Items, Members, as_table, get_member}
 use Rattle.routine_kit.specs.declared.any_routine.AnyRoutine.{AnyRoutine}
 use Rattle.routine_kit.specs.declared.any_routine.AnyRoutine.TheVariants as routine
@@ -10,9 +11,9 @@ use Rattle.scenario_toml.specs.declared.kind.Kind.{Kind}
 use Rattle.scenario_toml.specs.declared.kind.Kind.TheVariants.{Steps, Adder}
 use Rattle.scenario_toml.specs.Faults.{and_then}
 use Rattle.scenario_toml.specs.Keys.{key_at, times, cell, tries}
-use Rattle.scenario_toml.specs.LineOf.{line_of}
+use Rattle.routine_kit.specs.LineOf.{line_of}
 use Rattle.scenario_toml.specs.Values.{each, list, meant, number_in, of_kind, only, required, text_in, text_item}
-use Rattle.scenario_toml.specs.Words.{kind_of}
+use Rattle.scenario_toml.specs.Texts.{kind_of}
 
 -- the kind has to be named
 abbrev pub kind_in : List ℕ → Members → Result Kind ScenarioFault
@@ -27,10 +28,10 @@ kind_names Adder = codes "kind" ∷ codes "cell" ∷ codes "tries" ∷ []
 abbrev pub line_item : List ℕ → ℕ → Data → Result Line ScenarioFault
 line_item = text_item line_of
 
--- at most 256 lines, which have to be there
+-- at most `LINES` lines, which have to be there
 unfoldable pub lines_in : List ℕ → Members → Result (List Line) ScenarioFault
 lines_in path table =
-    and_then (required (path ++ codes "lines") (get_member (codes "lines") table)) (list line_item (path ++ codes "lines") 256)
+    and_then (required (path ++ codes "lines") (get_member (codes "lines") table)) (list line_item (path ++ codes "lines") LINES)
 
 -- lines that are run so many times
 unfoldable pub steps_in : List ℕ → Members → Result AnyRoutine ScenarioFault

@@ -74,7 +74,8 @@ abbrev pub list : {A : Type 0} → (List ℕ → ℕ → Data → Result A Scena
 list read key most d = and_then (array key most d) (each (read key) 0)
 
 -- such an array, or what stands for it where it is absent
-abbrev pub list_or : {A : Type 0} → List A → (List ℕ → ℕ → Data → Result A ScenarioFault) → List ℕ → ℕ → Option Data → Result (List A) ScenarioFault
+abbrev pub list_or : {A : Type 0} → List A → (List ℕ → ℕ → Data → Result A ScenarioFault) → List ℕ → ℕ → Option Data
+    → Result (List A) ScenarioFault
 list_or default read key most None = Ok default
 list_or default read key most (Some d) = list read key most d
 

@@ -3,7 +3,7 @@ use Rattle.std.specs.Prelude.{◌≡◌, ℕ, ◌^◌, ◌<◌, List, ◌∷◌,
 use Rattle.std.specs.Fmt.{decimal}
 use Rattle.scenario_toml.specs.declared.watch.Watch.{Watch}
 use Rattle.scenario_toml.specs.declared.watch.Watch.TheVariants.{CellEnd}
-use Rattle.scenario_toml.specs.Words.{watch_text}
+use Rattle.scenario_toml.specs.Texts.{watch_text}
 
 -- both numbers are below 2 ^ 64
 abbrev pub IsSmall : Watch → Type 0

@@ -7,6 +7,6 @@ pub struct Choice {
     pub strategy: Option<Strategy>,
     /// The seed.
     pub seed: Option<u64>,
-    /// The depth, from 1 to 16.
+    /// The depth, from 1 to `DEPTH`.
     pub depth: Option<u8>,
 }

@@ -1,4 +1,7 @@
-//! The keys whose values are whole numbers.
+//! The keys whose values are whole numbers, and how many items a selection can have.
+
+/// The most items of the key `select`.
+pub(crate) const PICKABLES: u32 = 32;
 
 /// A key whose value is a whole number.
 #[derive(Clone, Copy, Debug)]
@@ -16,8 +19,8 @@ pub(crate) struct NumberKey {
 pub(crate) const MAX_STEPS: NumberKey = NumberKey {
     name: "max_steps",
     least: 1,
-    most: 65_536,
-    default: Some(65_536),
+    most: surw_base::STEPS as i64,
+    default: Some(surw_base::STEPS as u64),
 };
 
 pub(crate) const SEED: NumberKey = NumberKey {
@@ -30,21 +33,21 @@ pub(crate) const SEED: NumberKey = NumberKey {
 pub(crate) const DEPTH: NumberKey = NumberKey {
     name: "depth",
     least: 1,
-    most: 16,
+    most: surw_base::DEPTH as i64,
     default: Some(3),
 };
 
 pub(crate) const CELLS: NumberKey = NumberKey {
     name: "cells",
     least: 0,
-    most: 64,
+    most: surw_base::CELLS as i64,
     default: Some(0),
 };
 
 pub(crate) const LOCKS: NumberKey = NumberKey {
     name: "locks",
     least: 0,
-    most: 8,
+    most: surw_base::LOCKS as i64,
     default: Some(0),
 };
 
@@ -73,20 +76,20 @@ pub(crate) const SLOTS: NumberKey = NumberKey {
 pub(crate) const TIMES: NumberKey = NumberKey {
     name: "times",
     least: 1,
-    most: 4_096,
+    most: surw_base::TIMES as i64,
     default: Some(1),
 };
 
 pub(crate) const CELL: NumberKey = NumberKey {
     name: "cell",
     least: 0,
-    most: 63,
+    most: surw_base::CELLS as i64 - 1,
     default: None,
 };
 
 pub(crate) const TRIES: NumberKey = NumberKey {
     name: "tries",
     least: 1,
-    most: 4_096,
+    most: surw_base::TIMES as i64,
     default: Some(1),
 };

@@ -1,6 +1,6 @@
 ghost use Rattle.std.specs.Prelude.{◌≡◌, map};
 ghost use Rattle.scenario_toml.specs.Thread.{kind_names};
-ghost use Rattle.scenario_toml.specs.Words.{kind_of};
+ghost use Rattle.scenario_toml.specs.Texts.{kind_of};
 
 /// A kind of thread.
 #[derive(Clone, Copy, Debug, PartialEq, Eq)]

@@ -7,16 +7,16 @@ ghost use Rattle.scenario_toml.specs.Plan.{rule_by, selection_by, HasDepth, IsPl
 use crate::{Choice, Scenario, Strategy};
 use draw_split::Weights;
 use event_class::{Pickable, Selection};
-use routine_kit::{AnyRoutine, Routine};
+use routine_kit::{AnyRoutine, copies};
 use run_rules::Plan;
 use seed_draws::{AnyDraws, LooseTape, StrictTape};
 use std::alloc::Global;
-use surw_base::OutOfMemory;
+use surw_base::{DEPTH, OutOfMemory};
 use walk_rules::{Rule, Walk};
 
 impl Scenario {
     /// The plan of a run under a choice without a seed, with a count for each thread. A depth that is chosen is
-    /// from 1 to 16. The selected draws are those of the file's tape `selected`, the other draws those of its
+    /// from 1 to `DEPTH`. The selected draws are those of the file's tape `selected`, the other draws those of its
     /// tape `other`. Under URW every event is selected, else what the file says. The plan is valid. An error
     /// comes only where memory is refused.
     pub fn plan(
@@ -50,7 +50,7 @@ impl Scenario {
 
 // The rule of a strategy, where a depth is given.
 fn rule(strategy: Strategy, depth: u8) -> Rule
-    requires { (1 ≤ depth) × (depth ≤ 16) }
+    requires { (1 ≤ depth) × (depth ≤ DEPTH) }
     ensures same { result ≡ rule_by strategy depth }
     ensures depth { IsDepth result }
 {
@@ -74,17 +74,6 @@ fn selection(
         Strategy::Urw => Ok(Selection::new(Vec::from_slice(alloc, &[Pickable::Every])?)),
         _ => select.copy(alloc),
     }
-}
-
-// Equal routines.
-fn copies(alloc: Global, routines: &[AnyRoutine]) -> Result<Vec<AnyRoutine>, OutOfMemory>
-    ensures { IfOk result (λ copies. copies.items ≡ routines.now) }
-{
-    let mut copies = Vec::with_capacity(alloc, routines.len())?;
-    for routine in routines {
-        copies.push(routine.copy(alloc)?)?;
-    }
-    Ok(copies)
 }
 
 #[cfg(test)]

@@ -1,5 +1,5 @@
 ghost use Rattle.std.specs.Prelude.{◌≡◌, ◌≤◌, length};
-ghost use Rattle.surw_base.specs.declared.limits.TheConstants.{THREADS};
+ghost use Rattle.surw_base.specs.declared.limits.TheConstants.{DEPTH, THREADS};
 ghost use Rattle.scenario_toml.specs.Plan.{chosen_or, depth_by, strategy_by, HasDepth};
 
 use crate::{Choice, Strategy};
@@ -27,7 +27,7 @@ pub struct Scenario {
 }
 
 impl Model for Scenario {
-    ghost use Rattle.scenario_toml.specs.Inside.{state_of};
+    ghost use Rattle.scenario_toml.specs.View.{state_of};
     ghost use Rattle.scenario_toml.specs.State.{ScenarioState, IsScenario};
 
     ghost Value = { ScenarioState };
@@ -58,10 +58,10 @@ impl Scenario {
         }
     }
 
-    /// The depth: the choice's where it has one, else the file's, which is from 1 to 16.
+    /// The depth: the choice's where it has one, else the file's, which is from 1 to `DEPTH`.
     pub fn depth(&self, choice: &Choice) -> u8
         ensures given { result ≡ depth_by self.now choice.now }
-        ensures within { HasDepth choice.now → (1 ≤ result) × (result ≤ 16) }
+        ensures within { HasDepth choice.now → (1 ≤ result) × (result ≤ DEPTH) }
     {
         match choice.depth {
             Some(depth) => depth,

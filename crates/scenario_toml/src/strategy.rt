@@ -1,5 +1,5 @@
 ghost use Rattle.std.specs.Prelude.{◌≡◌};
-ghost use Rattle.scenario_toml.specs.Words.{strategy_of};
+ghost use Rattle.scenario_toml.specs.Texts.{strategy_of};
 
 /// A strategy that a scenario can name.
 #[derive(Clone, Copy, Debug, PartialEq, Eq)]

@@ -1,12 +1,11 @@
 ghost use Rattle.std.specs.Prelude.{ℕ, ◌≡◌, ◌++◌, codes, IfOk, IfSome, Some};
-ghost use Rattle.surw_base.specs.Number.{IsNumberText};
 ghost use Rattle.scenario_toml.specs.declared.watch.Watch.{Watch};
 ghost use Rattle.scenario_toml.specs.declared.watch.Watch.TheVariants.{CellEnd};
 ghost use Rattle.scenario_toml.specs.WatchText.{IsWatchText, AreTwoNumbers};
-ghost use Rattle.scenario_toml.specs.Words.{watch_of, watch_text};
+ghost use Rattle.scenario_toml.specs.Texts.{watch_of, watch_text};
 
 use std::alloc::Global;
-use surw_base::{OutOfMemory, push_number, read_number};
+use surw_base::{OutOfMemory, push_number, read_number, read_whole_number};
 
 /// What a file says is watched for. The cell need not be there.
 #[derive(Clone, Copy, Debug, PartialEq, Eq)]
@@ -86,23 +85,8 @@ fn cell_end(text: &[u8]) -> Option<Watch>
         return None;
     }
     let (_, digits) = text.split_at(len + 1);
-    match whole_number(digits) {
+    match read_whole_number(digits) {
         Some(value) => Some(Watch::CellEnd { cell, value }),
         None => None,
-    }
-}
-
-// The number that a whole text writes.
-fn whole_number(text: &[u8]) -> Option<u64>
-    ensures found { IfSome result (IsNumberText text.now) }
-    ensures only { (n : ℕ) → IsNumberText text.now n → result ≡ Some n }
-{
-    match read_number(text) {
-        None => None,
-        Some((number, len)) => if len == text.len() {
-            Some(number)
-        } else {
-            None
-        },
     }
 }

@@ -114,7 +114,7 @@ fn what_stands_for_the_keys_that_are_absent(rt: HostRuntime) -> Result<(), Fail>
 
 // Whether a walk is a new one of PCT with this depth, without threads.
 fn is_of_depth(alloc: Global, walk: &Walk, depth: u8) -> Result<bool, OutOfMemory>
-    requires { (1 ≤ depth) × (depth ≤ 16) }
+    requires { (1 ≤ depth) × (depth ≤ DEPTH) }
 {
     let due = Walk::new(alloc, Rule::Pct { depth }, Weights::new(&[]))?;
     Ok(walk.same(&due))

@@ -1,10 +1,8 @@
-ghost use Rattle.std.specs.Prelude.{◌≡◌, ◌≤◌, ◌++◌, codes, IfOk, IfErr, Ok, length, []};
+ghost use Rattle.std.specs.Prelude.{◌≡◌, ◌≤◌, IfOk, IfErr, Ok, length};
 ghost use Rattle.surw_base.specs.declared.limits.TheConstants.{STEPS};
-ghost use Rattle.toml.specs.Data.{get_member};
 ghost use Rattle.toml.specs.View.{table_view};
 ghost use Rattle.scenario_toml.specs.Faults.{IsFaultOf};
-ghost use Rattle.scenario_toml.specs.Tapes.{tapes, entry_item};
-ghost use Rattle.scenario_toml.specs.Values.{list_or};
+ghost use Rattle.scenario_toml.specs.Tapes.{tapes, entries_in};
 
 use crate::read::items::Item;
 use crate::read::values::{list_of, number_item, only, value_at};
@@ -25,7 +23,8 @@ pub(crate) struct Entries {
 /// The entries that the table `tapes` lists.
 #[tactic(auto, unfolding(crate::specs::Tapes::tapes))]
 pub(crate) fn read_tapes(alloc: Global, table: &Table) -> Result<Entries, ScenarioFault>
-    ensures ok { IfOk result (λ found. tapes (table_view table.now) ≡ Ok (record { selected = found.selected.items; other = found.other.items })) }
+    ensures ok { IfOk result (λ found.
+        tapes (table_view table.now) ≡ Ok (record { selected = found.selected.items; other = found.other.items })) }
     ensures fault { IfErr result (IsFaultOf (tapes (table_view table.now))) }
     ensures few { IfOk result (λ found. (length found.selected.items ≤ STEPS) × (length found.other.items ≤ STEPS)) }
 {
@@ -37,8 +36,8 @@ pub(crate) fn read_tapes(alloc: Global, table: &Table) -> Result<Entries, Scenar
 
 // The entries of a tape, and none where it is absent.
 fn entries_at(alloc: Global, table: &Table, name: &str) -> Result<Vec<u64>, ScenarioFault>
-    ensures ok { IfOk result (λ found. list_or [] entry_item (codes "tapes." ++ name.now) 65536 (get_member name.now (table_view table.now)) ≡ Ok found.items) }
-    ensures fault { IfErr result (IsFaultOf (list_or [] entry_item (codes "tapes." ++ name.now) 65536 (get_member name.now (table_view table.now)))) }
+    ensures ok { IfOk result (λ found. entries_in name.now (table_view table.now) ≡ Ok found.items) }
+    ensures fault { IfErr result (IsFaultOf (entries_in name.now (table_view table.now))) }
     ensures few { IfOk result (λ found. length found.items ≤ STEPS) }
 {
     match value_at(table, name) {

@@ -3,7 +3,6 @@ ghost use Rattle.surw_base.specs.declared.limits.TheConstants.{THREADS};
 ghost use Rattle.routine_kit.specs.Line.{IsLine};
 ghost use Rattle.toml.specs.View.{items_view, table_view};
 ghost use Rattle.scenario_toml.specs.Faults.{IsFaultOf};
-ghost use Rattle.scenario_toml.specs.LineOf.{line_of};
 ghost use Rattle.scenario_toml.specs.Thread.{kind_in, kind_names, lines_in, steps_in, adder_in, routine_in, threads};
 ghost use Rattle.scenario_toml.specs.Values.{only};
 
@@ -13,6 +12,7 @@ use crate::read::values::{list_of, not_named, number_at, only, text_at, value_at
 use crate::{KeyName, ScenarioFault, keys};
 use routine_kit::{Adder, AnyRoutine, Line, Lines, Steps, read_line};
 use std::alloc::Global;
+use surw_base::LINES;
 use toml::{Table, Value};
 
 /// The routines of the array `thread`, and none where it is absent.
@@ -115,14 +115,14 @@ fn read_steps(alloc: Global, path: &[u8], table: &Table) -> Result<AnyRoutine, S
 fn lines_at(alloc: Global, path: &[u8], table: &Table) -> Result<Vec<Line>, ScenarioFault>
     ensures ok { IfOk result (λ lines. lines_in path.now (table_view table.now) ≡ Ok lines.items) }
     ensures fault { IfErr result (IsFaultOf (lines_in path.now (table_view table.now))) }
-    ensures few { IfOk result (λ lines. length lines.items ≤ 256) }
+    ensures few { IfOk result (λ lines. length lines.items ≤ LINES) }
     ensures each { IfOk result (λ lines. All IsLine lines.items) }
 {
     match value_at(table, "lines") {
         None => Err(ScenarioFault::Missing {
             key: KeyName::new(alloc, path, "lines")?,
         }),
-        Some(value) => list_of(alloc, path, "lines", value, 256),
+        Some(value) => list_of(alloc, path, "lines", value, LINES as u32),
     }
 }
 
@@ -154,18 +154,10 @@ impl Item for Line {
         let key = key.at(alloc, place)?;
         match value.as_str() {
             None => Err(ScenarioFault::WrongKind { key }),
-            Some(text) => match line(text.as_bytes()) {
+            Some(text) => match read_line(text.as_bytes()) {
                 Some(line) => Ok(line),
                 None => Err(not_named(alloc, key, text.as_bytes())),
             },
         }
     }
-}
-
-// The line of a text.
-fn line(text: &[u8]) -> Option<Line>
-    ensures same { result ≡ line_of text.now }
-    ensures kept { IfSome result IsLine }
-{
-    read_line(text)
 }

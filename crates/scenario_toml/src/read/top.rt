@@ -1,13 +1,9 @@
-ghost use Rattle.std.specs.Prelude.{◌≡◌, ◌≤◌, ◌∷◌, [], codes, length, option_map, IfOk, IfErr, IfSome, Ok};
+ghost use Rattle.std.specs.Prelude.{◌≡◌, ◌≤◌, codes, length, option_map, IfOk, IfErr, IfSome, Ok};
 ghost use Rattle.surw_base.specs.declared.limits.TheConstants.{STEPS};
-ghost use Rattle.event_class.specs.declared.pickable.Pickable.TheVariants.{Every};
 ghost use Rattle.toml.specs.Data.{get_member};
 ghost use Rattle.toml.specs.View.{items_view, table_view};
 ghost use Rattle.scenario_toml.specs.Faults.{IsFaultOf};
-ghost use Rattle.scenario_toml.specs.Monitors.{watch_item};
-ghost use Rattle.scenario_toml.specs.Top.{array_in, lists, parts, select_item, settings, strategy_in, table_in, tapes_in};
-ghost use Rattle.scenario_toml.specs.Values.{list_or};
-ghost use Rattle.scenario_toml.specs.Words.{pickable_of};
+ghost use Rattle.scenario_toml.specs.TopTable.{lists, parts, select_in, settings, strategy_in, tapes_in, threads_in, watches_in, world_in_top};
 
 use crate::read::counts::read_counts;
 use crate::read::items::Item;
@@ -16,6 +12,7 @@ use crate::watch::Watch;
 use crate::{KeyName, ScenarioFault, Strategy, keys};
 use event_class::{Pickable, read_pickable};
 use std::alloc::Global;
+use surw_base::{DEPTH, MONITORS, THREADS};
 use toml::{Table, Value};
 
 /// The keys of the top table.
@@ -46,12 +43,14 @@ pub(crate) struct Settings {
 }
 
 /// The numbers and words of the top table.
-#[tactic(auto, unfolding(crate::specs::Top::settings))]
+#[tactic(auto, unfolding(crate::specs::TopTable::settings))]
 pub(crate) fn read_settings(alloc: Global, table: &Table) -> Result<Settings, ScenarioFault>
-    ensures ok { IfOk result (λ s. settings (table_view table.now) ≡ Ok (record { max_steps = s.max_steps; strategy = s.strategy; seed = s.seed; depth = s.depth })) }
+    ensures ok { IfOk result (λ s.
+        settings (table_view table.now)
+        ≡ Ok (record { max_steps = s.max_steps; strategy = s.strategy; seed = s.seed; depth = s.depth })) }
     ensures fault { IfErr result (IsFaultOf (settings (table_view table.now))) }
     ensures steps { IfOk result (λ s. (1 ≤ s.max_steps) × (s.max_steps ≤ STEPS)) }
-    ensures depth { IfOk result (λ s. (1 ≤ s.depth) × (s.depth ≤ 16)) }
+    ensures depth { IfOk result (λ s. (1 ≤ s.depth) × (s.depth ≤ DEPTH)) }
 {
     let max_steps = number_at(alloc, b"", table, keys::MAX_STEPS)?;
     let strategy = strategy_at(alloc, table)?;
@@ -97,11 +96,13 @@ pub(crate) struct Lists {
 }
 
 /// The lists of the top table.
-#[tactic(auto, unfolding(crate::specs::Top::lists))]
+#[tactic(auto, unfolding(crate::specs::TopTable::lists))]
 pub(crate) fn read_lists(alloc: Global, table: &Table) -> Result<Lists, ScenarioFault>
-    ensures ok { IfOk result (λ l. lists (table_view table.now) ≡ Ok (record { select = l.select.items; counts = l.counts.items; watches = l.watches.items })) }
+    ensures ok { IfOk result (λ l.
+        lists (table_view table.now)
+        ≡ Ok (record { select = l.select.items; counts = l.counts.items; watches = l.watches.items })) }
     ensures fault { IfErr result (IsFaultOf (lists (table_view table.now))) }
-    ensures few { IfOk result (λ l. length l.watches.items ≤ 16) }
+    ensures few { IfOk result (λ l. length l.watches.items ≤ MONITORS) }
 {
     let select = select_at(alloc, table)?;
     let counts = read_counts(alloc, table)?;
@@ -115,24 +116,24 @@ pub(crate) fn read_lists(alloc: Global, table: &Table) -> Result<Lists, Scenario
 
 // What is selected, and every event where the file doesn't say.
 fn select_at(alloc: Global, table: &Table) -> Result<Vec<Pickable>, ScenarioFault>
-    ensures ok { IfOk result (λ found. list_or (Every ∷ []) select_item (codes "select") 32 (get_member (codes "select") (table_view table.now)) ≡ Ok found.items) }
-    ensures fault { IfErr result (IsFaultOf (list_or (Every ∷ []) select_item (codes "select") 32 (get_member (codes "select") (table_view table.now)))) }
+    ensures ok { IfOk result (λ found. select_in (table_view table.now) ≡ Ok found.items) }
+    ensures fault { IfErr result (IsFaultOf (select_in (table_view table.now))) }
 {
     match value_at(table, "select") {
         None => Ok(Vec::from_slice(alloc, &[Pickable::Every])?),
-        Some(value) => list_of(alloc, b"", "select", value, 32),
+        Some(value) => list_of(alloc, b"", "select", value, keys::PICKABLES),
     }
 }
 
 // What is watched for.
 fn watches_at(alloc: Global, table: &Table) -> Result<Vec<Watch>, ScenarioFault>
-    ensures ok { IfOk result (λ found. list_or [] watch_item (codes "monitors") 16 (get_member (codes "monitors") (table_view table.now)) ≡ Ok found.items) }
-    ensures fault { IfErr result (IsFaultOf (list_or [] watch_item (codes "monitors") 16 (get_member (codes "monitors") (table_view table.now)))) }
-    ensures few { IfOk result (λ found. length found.items ≤ 16) }
+    ensures ok { IfOk result (λ found. watches_in (table_view table.now) ≡ Ok found.items) }
+    ensures fault { IfErr result (IsFaultOf (watches_in (table_view table.now))) }
+    ensures few { IfOk result (λ found. length found.items ≤ MONITORS) }
 {
     match value_at(table, "monitors") {
         None => Ok(Vec::new(alloc)),
-        Some(value) => list_of(alloc, b"", "monitors", value, 16),
+        Some(value) => list_of(alloc, b"", "monitors", value, MONITORS as u32),
     }
 }
 
@@ -148,11 +149,17 @@ pub(crate) struct Parts<'a> {
 }
 
 /// The tables of the top table, looked at for their kind alone, and its array of threads with its length.
-#[tactic(auto, unfolding(crate::specs::Top::parts))]
+#[tactic(auto, unfolding(crate::specs::TopTable::parts))]
 pub(crate) fn read_parts<'a>(alloc: Global, table: &'a Table) -> Result<Parts<'a>, ScenarioFault>
-    ensures ok { IfOk result (λ p. parts (table_view table.now) ≡ Ok (record { world = option_map (λ t. table_view t.now) p.world; tapes = table_view p.tapes.now; threads = option_map (λ t. items_view t.now) p.threads })) }
+    ensures ok { IfOk result (λ p.
+        parts (table_view table.now)
+        ≡ Ok (record {
+          world = option_map (λ t. table_view t.now) p.world;
+          tapes = table_view p.tapes.now;
+          threads = option_map (λ t. items_view t.now) p.threads;
+        })) }
     ensures fault { IfErr result (IsFaultOf (parts (table_view table.now))) }
-    ensures few { IfOk result (λ p. IfSome p.threads (λ t. length t.now ≤ 16)) }
+    ensures few { IfOk result (λ p. IfSome p.threads (λ t. length t.now ≤ THREADS)) }
 {
     let world = world_at(alloc, table)?;
     let tapes = tapes_at(alloc, table)?;
@@ -166,8 +173,8 @@ pub(crate) fn read_parts<'a>(alloc: Global, table: &'a Table) -> Result<Parts<'a
 
 // The table `world`.
 fn world_at<'a>(alloc: Global, table: &'a Table) -> Result<Option<&'a Table>, ScenarioFault>
-    ensures ok { IfOk result (λ found. table_in (codes "world") (get_member (codes "world") (table_view table.now)) ≡ Ok (option_map (λ t. table_view t.now) found)) }
-    ensures fault { IfErr result (IsFaultOf (table_in (codes "world") (get_member (codes "world") (table_view table.now)))) }
+    ensures ok { IfOk result (λ found. world_in_top (table_view table.now) ≡ Ok (option_map (λ t. table_view t.now) found)) }
+    ensures fault { IfErr result (IsFaultOf (world_in_top (table_view table.now))) }
 {
     match value_at(table, "world") {
         None => Ok(None),
@@ -182,8 +189,8 @@ fn world_at<'a>(alloc: Global, table: &'a Table) -> Result<Option<&'a Table>, Sc
 
 // The table `tapes`.
 fn tapes_at<'a>(alloc: Global, table: &'a Table) -> Result<&'a Table, ScenarioFault>
-    ensures ok { IfOk result (λ found. tapes_in (get_member (codes "tapes") (table_view table.now)) ≡ Ok (table_view found.now)) }
-    ensures fault { IfErr result (IsFaultOf (tapes_in (get_member (codes "tapes") (table_view table.now)))) }
+    ensures ok { IfOk result (λ found. tapes_in (table_view table.now) ≡ Ok (table_view found.now)) }
+    ensures fault { IfErr result (IsFaultOf (tapes_in (table_view table.now))) }
 {
     let key = KeyName::new(alloc, b"", "tapes")?;
     match value_at(table, "tapes") {
@@ -197,18 +204,18 @@ fn tapes_at<'a>(alloc: Global, table: &'a Table) -> Result<&'a Table, ScenarioFa
 
 // The array `thread`.
 fn threads_at<'a>(alloc: Global, table: &'a Table) -> Result<Option<&'a [Value]>, ScenarioFault>
-    ensures ok { IfOk result (λ found. array_in (codes "thread") 16 (get_member (codes "thread") (table_view table.now)) ≡ Ok (option_map (λ t. items_view t.now) found)) }
-    ensures fault { IfErr result (IsFaultOf (array_in (codes "thread") 16 (get_member (codes "thread") (table_view table.now)))) }
-    ensures few { IfOk result (λ found. IfSome found (λ t. length t.now ≤ 16)) }
+    ensures ok { IfOk result (λ found. threads_in (table_view table.now) ≡ Ok (option_map (λ t. items_view t.now) found)) }
+    ensures fault { IfErr result (IsFaultOf (threads_in (table_view table.now))) }
+    ensures few { IfOk result (λ found. IfSome found (λ t. length t.now ≤ THREADS)) }
 {
     match value_at(table, "thread") {
         None => Ok(None),
-        Some(value) => Ok(Some(array_of(alloc, b"", "thread", value, 16)?)),
+        Some(value) => Ok(Some(array_of(alloc, b"", "thread", value, THREADS as u32)?)),
     }
 }
 
 impl Item for Pickable {
-    ghost use Rattle.scenario_toml.specs.Top.{select_item};
+    ghost use Rattle.scenario_toml.specs.TopTable.{select_item};
 
     ghost item = { select_item };
 
@@ -223,17 +230,10 @@ impl Item for Pickable {
         let key = key.at(alloc, place)?;
         match value.as_str() {
             None => Err(ScenarioFault::WrongKind { key }),
-            Some(text) => match pickable(text.as_bytes()) {
+            Some(text) => match read_pickable(text.as_bytes()) {
                 Some(item) => Ok(item),
                 None => Err(not_named(alloc, key, text.as_bytes())),
             },
         }
     }
-}
-
-// The item of a text.
-fn pickable(text: &[u8]) -> Option<Pickable>
-    ensures { result ≡ pickable_of text.now }
-{
-    read_pickable(text)
 }

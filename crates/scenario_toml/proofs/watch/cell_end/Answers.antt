@@ -12,11 +12,11 @@ returns-then-len-text-clause-only c cell value is = elim c.then-len-text.branch 
   | then-len-text-via-else-len-text+then-text-len-ne32 w ↦ absurd (w.if-text-len-ne32.true (space-behind c.args.text.now cell value c.in-Some.cell c.in-Some.len c.in-Some.ensures is))
 ]
 
-pub returns-in-Some-whole_number-clause-only : goal.returns-in-Some-whole_number-clause-only
-returns-in-Some-whole_number-clause-only c cell value is =
+pub returns-in-Some-read_whole_number-clause-only : goal.returns-in-Some-read_whole_number-clause-only
+returns-in-Some-read_whole_number-clause-only c cell value is =
     let second = second-number c.args.text.now cell value c.in-Some.cell c.in-Some.len c.in-Some.ensures is in
     let first = (two-numbers c.args.text.now cell value c.in-Some.cell c.in-Some.len c.in-Some.ensures is).0 in
-    let same = same_Some _ _ (c.in-Some-whole_number.ensures.only value (rw c.split_at.ensures.back second)) in
+    let same = same_Some _ _ (c.in-Some-read_whole_number.ensures.only value (rw c.split_at.ensures.back second)) in
     rw (first, same)
 
 pub returns-in-None-clause-only : goal.returns-in-None-clause-only

@@ -2,7 +2,7 @@ use Rattle.std.proofs.Common.{arith}
 use Rattle.std.proofs.lemmas.Grind.{common_steps}
 use Rattle.std.proofs.lemmas.Result.{err_from_is_err_and}
 use Rattle.std.proofs.lemmas.List.Elements.{All-push}
-use Rattle.scenario_toml.proofs.Each.{each-more, each-fault, each-all}
+use Rattle.scenario_toml.proofs.Items.{each-more, each-fault, each-all}
 use Rattle.scenario_toml.proofs.read.items.read_items.Goals as goal
 
 pub returns-in_err-read-clause-fault : goal.returns-in_err-read-clause-fault

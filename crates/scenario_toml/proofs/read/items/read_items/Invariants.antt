@@ -1,6 +1,6 @@
 use Rattle.std.proofs.Common.{◌≡◌, All, length, drop}
 use Rattle.toml.specs.View.{items_view}
-use Rattle.scenario_toml.proofs.Each.{behind}
+use Rattle.scenario_toml.proofs.Items.{behind}
 use Rattle.scenario_toml.specs.Values.{each}
 use Rattle.scenario_toml.proofs.read.items.read_items.Given as goal
 

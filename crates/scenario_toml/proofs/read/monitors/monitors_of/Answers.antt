@@ -3,7 +3,7 @@ use Rattle.std.proofs.lemmas.Grind.{common_steps}
 use Rattle.std.proofs.lemmas.Result.{err_from_is_err_and}
 use Rattle.std.proofs.lemmas.List.Elements.{All-push}
 use Rattle.test_world.specs.Monitor.{CanWatch}
-use Rattle.scenario_toml.proofs.Each.{monitors-more, monitors-fault, monitors-all}
+use Rattle.scenario_toml.proofs.Items.{monitors-more, monitors-fault, monitors-all}
 use Rattle.scenario_toml.proofs.read.monitors.monitors_of.Goals as goal
 
 pub returns-in_err-monitor_of-clause-fault : goal.returns-in_err-monitor_of-clause-fault

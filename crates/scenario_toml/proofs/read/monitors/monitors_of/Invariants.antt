@@ -1,7 +1,7 @@
 use Rattle.std.proofs.Common.{◌≡◌, All, length, drop}
 use Rattle.test_world.specs.Monitor.{CanWatch}
 use Rattle.test_world.specs.declared.size.WorldSize.{WorldSize}
-use Rattle.scenario_toml.proofs.Each.{behind}
+use Rattle.scenario_toml.proofs.Items.{behind}
 use Rattle.scenario_toml.specs.Monitors.{monitors_from}
 use Rattle.scenario_toml.proofs.read.monitors.monitors_of.Given as goal
 

@@ -1,5 +1,5 @@
 use Rattle.std.proofs.Common.{sym, ◌∙◌}
-use Rattle.scenario_toml.proofs.Unknown.{unknown-here, unknown-behind}
+use Rattle.scenario_toml.proofs.UnknownKeys.{unknown-here, unknown-behind}
 use Rattle.scenario_toml.proofs.read.values.least_unknown.Goals as goal
 
 pub returns-then-not-is_among : goal.returns-then-not-is_among

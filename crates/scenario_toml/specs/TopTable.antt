@@ -1,8 +1,11 @@
 -- The top table.
 use Rattle.std.specs.Prelude.{List, ℕ, [], ◌∷◌, Option, None, Some, Result, Ok, codes}
+use Rattle.surw_base.specs.declared.limits.TheConstants.{THREADS, MONITORS}
 use Rattle.toml.specs.Data.{Data, Items, Members, as_str, as_table, get_member}
 use Rattle.event_class.specs.declared.pickable.Pickable.{Pickable}
+use Rattle.event_class.specs.Pickable.{pickable_of}
 use Rattle.event_class.specs.declared.pickable.Pickable.TheVariants.{Every}
+use Rattle.scenario_toml.specs.declared.keys.TheConstants.{PICKABLES}
 use Rattle.scenario_toml.specs.declared.fault.ScenarioFault.{ScenarioFault}
 use Rattle.scenario_toml.specs.declared.strategy.Strategy.{Strategy}
 use Rattle.scenario_toml.specs.declared.strategy.Strategy.TheVariants.{Surw}
@@ -12,7 +15,7 @@ use Rattle.scenario_toml.specs.Faults.{and_then}
 use Rattle.scenario_toml.specs.Keys.{max_steps, seed, depth}
 use Rattle.scenario_toml.specs.Monitors.{watch_item}
 use Rattle.scenario_toml.specs.Values.{array, list_or, meant, number_in, of_kind, required, text_item}
-use Rattle.scenario_toml.specs.Words.{pickable_of, strategy_of}
+use Rattle.scenario_toml.specs.Texts.{strategy_of}
 
 -- the keys of the top table
 abbrev pub top_names : List (List ℕ)
@@ -51,12 +54,20 @@ pub record Lists : Type 0 where
 abbrev pub select_item : List ℕ → ℕ → Data → Result Pickable ScenarioFault
 select_item = text_item pickable_of
 
+-- what is selected, and every event where the file doesn't say
+abbrev pub select_in : Members → Result (List Pickable) ScenarioFault
+select_in table = list_or (Every ∷ []) select_item (codes "select") PICKABLES (get_member (codes "select") table)
+
+-- what is watched for
+abbrev pub watches_in : Members → Result (List Watch) ScenarioFault
+watches_in table = list_or [] watch_item (codes "monitors") MONITORS (get_member (codes "monitors") table)
+
 -- in their order
 unfoldable pub lists : Members → Result Lists ScenarioFault
 lists table =
-    and_then (list_or (Every ∷ []) select_item (codes "select") 32 (get_member (codes "select") table)) (λ select.
+    and_then (select_in table) (λ select.
     and_then (counts (get_member (codes "counts") table)) (λ counts.
-    and_then (list_or [] watch_item (codes "monitors") 16 (get_member (codes "monitors") table)) (λ watches.
+    and_then (watches_in table) (λ watches.
     Ok (record { select = select; counts = counts; watches = watches }))))
 
 -- its tables, by their kind alone, and the array of threads with its length
@@ -75,14 +86,22 @@ abbrev pub array_in : List ℕ → ℕ → Option Data → Result (Option Items)
 array_in key most None = Ok None
 array_in key most (Some d) = and_then (array key most d) (λ ds. Ok (Some ds))
 
--- the table `tapes` has to be there
-abbrev pub tapes_in : Option Data → Result Members ScenarioFault
-tapes_in d = and_then (required (codes "tapes") d) (λ d. of_kind (codes "tapes") (as_table d))
+-- the table `world`
+abbrev pub world_in_top : Members → Result (Option Members) ScenarioFault
+world_in_top table = table_in (codes "world") (get_member (codes "world") table)
+
+-- the table `tapes`, which has to be there
+abbrev pub tapes_in : Members → Result Members ScenarioFault
+tapes_in table = and_then (required (codes "tapes") (get_member (codes "tapes") table)) (λ d. of_kind (codes "tapes") (as_table d))
+
+-- the array `thread`
+abbrev pub threads_in : Members → Result (Option Items) ScenarioFault
+threads_in table = array_in (codes "thread") THREADS (get_member (codes "thread") table)
 
 -- in their order
 unfoldable pub parts : Members → Result Parts ScenarioFault
 parts table =
-    and_then (table_in (codes "world") (get_member (codes "world") table)) (λ world.
-    and_then (tapes_in (get_member (codes "tapes") table)) (λ tapes.
-    and_then (array_in (codes "thread") 16 (get_member (codes "thread") table)) (λ threads.
+    and_then (world_in_top table) (λ world.
+    and_then (tapes_in table) (λ tapes.
+    and_then (threads_in table) (λ threads.
     Ok (record { world = world; tapes = tapes; threads = threads }))))
