@@ -1,2 +1,2 @@
-pub mod OneMore
-pub mod Chosen
+pub mod SelectedEntries
+pub mod TextPrefixes

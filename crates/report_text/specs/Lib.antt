@@ -1,5 +1,4 @@
 pub mod Counts
-pub mod Lines
 pub mod MonitorLines
 pub mod NextLines
 pub mod Report

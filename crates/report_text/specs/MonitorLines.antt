@@ -4,8 +4,8 @@ use Rattle.std.specs.List.{flat_map, zip}
 use Rattle.test_world.specs.declared.monitor.Monitor.{Monitor}
 use Rattle.test_world.specs.declared.monitor.Monitor.TheVariants.{WriteAhead, LogWhole, Expect, CellEnd}
 use Rattle.run_rules.specs.declared.verdict.Verdict.{Verdict}
-use Rattle.run_rules.specs.Failed.{is_ended}
-use Rattle.report_text.specs.Lines.{line, list_text}
+use Rattle.run_rules.specs.MonitorFailures.{is_ended}
+use Rattle.surw_base.specs.Lines.{line, list_text}
 
 -- what a monitor watches for
 abbrev pub monitor_text : Monitor → List ℕ
@@ -27,7 +27,8 @@ judged_text (Some place) = list_text (codes "failed after") (place ∷ [])
 -- the line of a monitor
 abbrev pub monitor_line : Verdict → Monitor → Option ℕ → List ℕ
 monitor_line verdict monitor failed =
-    line (codes "monitor " ++ monitor_text monitor ++ codes " " ++ (if is_judged verdict monitor then judged_text failed else codes "unjudged"))
+    line (codes "monitor " ++ monitor_text monitor ++ codes " "
+    ++ (if is_judged verdict monitor then judged_text failed else codes "unjudged"))
 
 -- the lines of the monitors in their order, each with its place
 unfoldable pub monitor_lines : Verdict → List Monitor → List (Option ℕ) → List ℕ

@@ -3,7 +3,7 @@ use Rattle.std.specs.Prelude.{ℕ, List, [], ◌∷◌, ◌++◌, Option, None, 
 use Rattle.std.specs.List.{flat_map, enumerate_from}
 use Rattle.event_class.specs.declared.event.Event.{Event}
 use Rattle.event_class.specs.Event.{event_text}
-use Rattle.report_text.specs.Lines.{line, list_text}
+use Rattle.surw_base.specs.Lines.{line, list_text}
 
 -- the line of a thread that announces an event, and nothing for a thread that doesn't
 abbrev pub next_line : ℕ → Option Event → List ℕ

@@ -1,9 +1,9 @@
 -- The text of a run.
 use Rattle.std.specs.Prelude.{ℕ, List, [], ◌++◌, codes, length}
-use Rattle.run_rules.specs.Made.{selected_order}
+use Rattle.run_rules.specs.EventsMade.{selected_order}
 use Rattle.run_rules.specs.Run.{Outcome}
 use Rattle.report_text.specs.Counts.{selected_count, forced_count, switches}
-use Rattle.report_text.specs.Lines.{list_line, number_line}
+use Rattle.surw_base.specs.Lines.{list_line, number_line}
 use Rattle.report_text.specs.MonitorLines.{monitor_lines}
 use Rattle.report_text.specs.NextLines.{next_lines}
 use Rattle.report_text.specs.StepLines.{steps_text}

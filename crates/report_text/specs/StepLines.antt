@@ -4,7 +4,7 @@ use Rattle.std.specs.List.{flat_map, enumerate_from}
 use Rattle.std.specs.Fmt.{decimal}
 use Rattle.event_class.specs.Event.{event_text}
 use Rattle.run_rules.specs.declared.entry.Entry.{Entry}
-use Rattle.report_text.specs.Lines.{line, list_text}
+use Rattle.surw_base.specs.Lines.{line, list_text}
 
 -- the mark of a forced entry
 abbrev pub forced_mark : Bool → List ℕ
@@ -13,7 +13,8 @@ forced_mark forced = if forced then codes " forced" else []
 -- the line of the entry of this number
 abbrev pub step_line : ℕ → Entry → List ℕ
 step_line k entry =
-    line (list_text (codes "step") (k ∷ entry.thread ∷ []) ++ codes " " ++ event_text entry.event ++ codes " = " ++ decimal entry.reply ++ forced_mark entry.forced)
+    line (list_text (codes "step") (k ∷ entry.thread ∷ []) ++ codes " " ++ event_text entry.event
+    ++ codes " = " ++ decimal entry.reply ++ forced_mark entry.forced)
 
 -- the lines of the entries, from number 0 on
 unfoldable pub steps_text : List Entry → List ℕ

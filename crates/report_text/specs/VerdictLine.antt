@@ -6,7 +6,7 @@ use Rattle.seed_draws.specs.declared.draw_fault.DrawFault.{DrawFault}
 use Rattle.seed_draws.specs.declared.draw_fault.DrawFault.TheVariants.{Short, Large}
 use Rattle.run_rules.specs.declared.verdict.Verdict.{Verdict}
 use Rattle.run_rules.specs.declared.verdict.Verdict.TheVariants.{Ended, Deadlock, WrongCount, Draw, Asked, Left, StepLimit}
-use Rattle.report_text.specs.Lines.{line, list_text}
+use Rattle.surw_base.specs.Lines.{line, list_text}
 
 -- why a source of draws refused
 abbrev pub fault_text : DrawFault → List ℕ

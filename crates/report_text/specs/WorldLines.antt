@@ -2,7 +2,7 @@
 use Rattle.std.specs.Prelude.{ℕ, List, ◌∷◌, ◌++◌, Option, None, Some, codes}
 use Rattle.std.specs.List.{flat_map}
 use Rattle.std.specs.Fmt.{decimal}
-use Rattle.report_text.specs.Lines.{line}
+use Rattle.surw_base.specs.Lines.{line}
 
 -- the thread that holds a lock, or `-` where it is free
 abbrev pub holder_text : Option ℕ → List ℕ

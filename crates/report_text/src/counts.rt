@@ -1,12 +1,11 @@
 ghost use Rattle.std.specs.Prelude.{◌≡◌, ◌∷◌, [], ◌++◌, codes, length, OnOk};
-ghost use Rattle.run_rules.specs.Made.{selected_order};
+ghost use Rattle.run_rules.specs.EventsMade.{selected_order};
 ghost use Rattle.report_text.specs.Counts.{selected_count, forced_count, switches};
-ghost use Rattle.report_text.specs.Lines.{list_line, number_line};
+ghost use Rattle.surw_base.specs.Lines.{list_line, number_line};
 
-use crate::lists::{push_item, push_list_line};
 use pure_run::Run;
 use run_rules::Entry;
-use surw_base::OutOfMemory;
+use surw_base::{OutOfMemory, push_item, push_list_line};
 
 // Appends the lines of what is counted in a run.
 pub(crate) fn push_counts(text: &mut Vec<u8>, run: &Run) -> Result<(), OutOfMemory>
@@ -26,9 +25,10 @@ pub(crate) fn push_counts(text: &mut Vec<u8>, run: &Run) -> Result<(), OutOfMemo
 }
 
 // Appends the line of the threads of the selected entries.
-#[tactic(auto, unfolding(crate::specs::Lines::list_line))]
+#[tactic(auto, unfolding(surw_base::specs::Lines::list_line))]
 pub(crate) fn push_order_line(text: &mut Vec<u8>, run: &Run) -> Result<(), OutOfMemory>
-    ensures { OnOk result (text.new.items ≡ text.old.items ++ list_line (codes "order") (selected_order run.now.selection run.now.journal)) }
+    ensures { OnOk result (text.new.items
+        ≡ text.old.items ++ list_line (codes "order") (selected_order run.now.selection run.now.journal)) }
 {
     text.extend_from_slice(b"order")?;
     for (k, entry) in run.journal().iter().enumerate() {

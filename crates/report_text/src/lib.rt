@@ -2,7 +2,6 @@
 #![tactic(auto)]
 
 mod counts;
-mod lists;
 mod monitor_lines;
 mod next_lines;
 mod steps;

@@ -1,10 +1,9 @@
 ghost use Rattle.std.specs.Prelude.{◌≡◌, ◌++◌, OnOk};
 ghost use Rattle.report_text.specs.MonitorLines.{monitor_text, is_judged, judged_text, monitor_line, monitor_lines};
 
-use crate::lists::push_list;
 use pure_run::Run;
 use run_rules::Verdict;
-use surw_base::OutOfMemory;
+use surw_base::{OutOfMemory, push_list};
 use test_world::Monitor;
 
 // Appends the lines of the monitors.

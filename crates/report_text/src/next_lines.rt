@@ -1,10 +1,9 @@
 ghost use Rattle.std.specs.Prelude.{◌≡◌, ◌++◌, OnOk};
 ghost use Rattle.report_text.specs.NextLines.{next_line, next_lines};
 
-use crate::lists::push_list;
 use event_class::{Event, push_event};
 use pure_run::Run;
-use surw_base::{OutOfMemory, ThreadNo};
+use surw_base::{OutOfMemory, ThreadNo, push_list};
 
 // Appends a line for each thread that announces an event at the end.
 #[tactic(auto, unfolding(crate::specs::NextLines::next_lines))]

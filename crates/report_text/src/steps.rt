@@ -1,10 +1,9 @@
 ghost use Rattle.std.specs.Prelude.{◌≡◌, ◌++◌, OnOk};
 ghost use Rattle.report_text.specs.StepLines.{forced_mark, step_line, steps_text};
 
-use crate::lists::push_list;
 use event_class::push_event;
 use run_rules::Entry;
-use surw_base::{OutOfMemory, push_number};
+use surw_base::{OutOfMemory, push_list, push_number};
 
 // Appends the lines of the entries.
 #[tactic(auto, unfolding(crate::specs::StepLines::steps_text))]

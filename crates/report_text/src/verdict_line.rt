@@ -1,11 +1,10 @@
 ghost use Rattle.std.specs.Prelude.{◌≡◌, ◌++◌, OnOk};
 ghost use Rattle.report_text.specs.VerdictLine.{fault_text, announced_text, verdict_text, verdict_line};
 
-use crate::lists::push_list;
 use event_class::{Event, push_event};
 use run_rules::Verdict;
 use seed_draws::DrawFault;
-use surw_base::{OutOfMemory, ThreadNo};
+use surw_base::{OutOfMemory, ThreadNo, push_list};
 
 // Appends the line of a verdict.
 #[tactic(auto, unfolding(crate::specs::VerdictLine::verdict_line))]

@@ -1,9 +1,8 @@
 ghost use Rattle.std.specs.Prelude.{◌≡◌, ◌∷◌, [], ◌++◌, codes, OnOk};
-ghost use Rattle.report_text.specs.Lines.{list_line, number_line};
+ghost use Rattle.surw_base.specs.Lines.{list_line, number_line};
 ghost use Rattle.report_text.specs.WorldLines.{holder_text, locks_line};
 
-use crate::lists::{push_item, push_list_line};
-use surw_base::{OutOfMemory, ThreadNo, push_number};
+use surw_base::{OutOfMemory, ThreadNo, push_item, push_list_line, push_number};
 use test_world::World;
 
 // Appends the lines of the world at the end.
@@ -31,7 +30,7 @@ pub(crate) fn push_world_lines(text: &mut Vec<u8>, world: &World) -> Result<(), 
 }
 
 // Appends the line of the values of the cells.
-#[tactic(auto, unfolding(crate::specs::Lines::list_line))]
+#[tactic(auto, unfolding(surw_base::specs::Lines::list_line))]
 fn push_cells_line(text: &mut Vec<u8>, world: &World) -> Result<(), OutOfMemory>
     ensures { OnOk result (text.new.items ≡ text.old.items ++ list_line (codes "cells") world.now.cells) }
 {

@@ -1,4 +1,5 @@
 ghost use Rattle.std.specs.Prelude.{◌<◌};
+ghost use Rattle.surw_base.specs.declared.limits.TheConstants.{THREADS};
 
 use super::*;
 use event_class::Event;
@@ -17,7 +18,7 @@ fn a_switch_is_between_two_entries(rt: HostRuntime) {
 }
 
 fn step_of(number: u8) -> Entry
-    requires { number < 16 }
+    requires { number < THREADS }
 {
     Entry {
         thread: ThreadNo::new(number).unwrap(),

@@ -3,10 +3,10 @@ use Rattle.std.proofs.lemmas.Option.{slice_get_read}
 use Rattle.std.specs.Fmt.{decimal}
 use Rattle.std.specs.List.{slice_get}
 use Rattle.run_rules.specs.declared.entry.Entry.{Entry}
-use Rattle.run_rules.specs.Made.{selected_order}
-use Rattle.report_text.specs.Lines.{items_text}
-use Rattle.report_text.proofs.Chosen.{order-none, order-takes, order-passes}
-use Rattle.report_text.proofs.OneMore.{added}
+use Rattle.run_rules.specs.EventsMade.{selected_order}
+use Rattle.surw_base.specs.Lines.{items_text}
+use Rattle.report_text.proofs.SelectedEntries.{order-none, order-takes, order-passes}
+use Rattle.report_text.proofs.TextPrefixes.{added}
 use Rattle.report_text.proofs.counts.push_order_line.Goals as goal
 use Rattle.report_text.proofs.counts.push_order_line.Goals.{then-chosen+in_ok-push_item, else-chosen}
 

@@ -1,6 +1,6 @@
 use Rattle.std.proofs.Common.{◌≡◌, ◌++◌, take}
-use Rattle.run_rules.specs.Made.{selected_order}
-use Rattle.report_text.specs.Lines.{items_text}
+use Rattle.run_rules.specs.EventsMade.{selected_order}
+use Rattle.surw_base.specs.Lines.{items_text}
 use Rattle.report_text.proofs.counts.push_order_line.Given as goal
 
 abbrev pub invariant-loop-k : goal.invariant-loop-k

@@ -1,7 +1,7 @@
 use Rattle.std.proofs.Common.{◌≡◌, length, sym, ap, ◌∙◌, arith}
 use Rattle.std.specs.Int.{from_bool}
-use Rattle.report_text.proofs.Chosen.{at_most_one, count-none, count-next}
-use Rattle.report_text.proofs.OneMore.{there}
+use Rattle.report_text.proofs.SelectedEntries.{at_most_one, count-none, count-next}
+use Rattle.report_text.proofs.TextPrefixes.{there}
 use Rattle.report_text.proofs.counts.selected_count.Goals as goal
 
 pub loop-k-init : goal.loop-k-init

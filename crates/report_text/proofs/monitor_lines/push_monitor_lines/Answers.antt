@@ -3,7 +3,7 @@ use Rattle.std.specs.List.{flat_map, zip}
 use Rattle.run_rules.specs.declared.verdict.Verdict.{Verdict}
 use Rattle.test_world.specs.declared.monitor.Monitor.{Monitor}
 use Rattle.report_text.specs.MonitorLines.{monitor_line, monitor_lines}
-use Rattle.report_text.proofs.OneMore.{added, paired, paired-all, text-next}
+use Rattle.report_text.proofs.TextPrefixes.{added, paired, paired-all, text-next}
 use Rattle.report_text.proofs.monitor_lines.push_monitor_lines.Goals as goal
 
 pub loop-i-preserved : goal.loop-i-preserved

@@ -3,7 +3,7 @@ use Rattle.std.proofs.lemmas.Option.{slice_get-get_or}
 use Rattle.std.specs.List.{slice_get, flat_map, enumerate_from}
 use Rattle.event_class.specs.declared.event.Event.{Event}
 use Rattle.report_text.specs.NextLines.{next_line, next_lines}
-use Rattle.report_text.proofs.OneMore.{added, numbered, numbered-all, text-next}
+use Rattle.report_text.proofs.TextPrefixes.{added, numbered, numbered-all, text-next}
 use Rattle.report_text.proofs.next_lines.push_next_lines.Goals as goal
 
 pub loop-number-preserved : goal.loop-number-preserved

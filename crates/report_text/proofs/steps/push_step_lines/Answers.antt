@@ -3,7 +3,7 @@ use Rattle.std.proofs.lemmas.Option.{slice_get_read}
 use Rattle.std.specs.List.{slice_get, flat_map, enumerate_from}
 use Rattle.run_rules.specs.declared.entry.Entry.{Entry}
 use Rattle.report_text.specs.StepLines.{step_line, steps_text}
-use Rattle.report_text.proofs.OneMore.{added, numbered, numbered-all, text-next}
+use Rattle.report_text.proofs.TextPrefixes.{added, numbered, numbered-all, text-next}
 use Rattle.report_text.proofs.steps.push_step_lines.Goals as goal
 
 pub loop-k-preserved : goal.loop-k-preserved

@@ -3,7 +3,7 @@ use Rattle.std.proofs.lemmas.Result.{on_ok_weaker}
 use Rattle.run_rules.specs.declared.verdict.Verdict.{Verdict}
 use Rattle.report_text.specs.Report.{summary_text}
 use Rattle.report_text.specs.VerdictLine.{verdict_line}
-use Rattle.report_text.proofs.OneMore.{onto}
+use Rattle.report_text.proofs.TextPrefixes.{onto}
 use Rattle.report_text.proofs.texts.push_summary.Goals as goal
 
 pub returns : goal.returns

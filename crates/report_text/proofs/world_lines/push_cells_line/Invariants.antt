@@ -1,5 +1,5 @@
 use Rattle.std.proofs.Common.{◌≡◌, ◌++◌, take}
-use Rattle.report_text.specs.Lines.{items_text}
+use Rattle.surw_base.specs.Lines.{items_text}
 use Rattle.report_text.proofs.world_lines.push_cells_line.Given as goal
 
 abbrev pub invariant-loop-cell : goal.invariant-loop-cell

@@ -1,4 +1,4 @@
--- The selected entries of one entry more.
+-- The selected entries of the first of a journal, with one entry more.
 use Rattle.std.proofs.Common.{◌≡◌, ℕ, ◌+◌, ◌≤◌, Bool, true, false, cond, List, [], ◌∷◌, ◌++◌, take, map, Some, refl, ap, ◌∙◌, arith, append-nil, zero-add}
 use Rattle.std.proofs.lemmas.Grind.{flat_map-append}
 use Rattle.std.proofs.lemmas.List.{map-append}
@@ -10,10 +10,10 @@ use Rattle.std.specs.List.{slice_get, filter}
 use Rattle.event_class.specs.declared.pickable.Pickable.{Pickable}
 use Rattle.event_class.specs.Selection.{has}
 use Rattle.run_rules.specs.declared.entry.Entry.{Entry}
-use Rattle.run_rules.specs.Made.{selected_order}
+use Rattle.run_rules.specs.EventsMade.{selected_order}
 use Rattle.report_text.specs.Counts.{selected_count}
-use Rattle.report_text.specs.Lines.{items_text}
-use Rattle.report_text.proofs.OneMore.{take-next}
+use Rattle.surw_base.specs.Lines.{items_text}
+use Rattle.report_text.proofs.TextPrefixes.{take-next}
 
 byte : (b : Bool) → cond b 1 0 ≡ from_bool b
 byte true = refl
