@@ -45,8 +45,6 @@ fn what_no_draws_name_is_refused(rt: HostRuntime) -> Result<(), Fail> {
         below: 2,
     };
     assert_eq!(rt; outside, Some(fault));
-    let text = format!(in rt.alloc(); "{fault}")?;
-    assert_eq!(rt; text.as_str(), "offset 0 of thread 0 is 2 and not below 2");
     let few = joined(rt.alloc(), &[zero, one, zero], &[1], &[0])?.err();
     let fault = JoinFault::Offsets {
         thread: zero,
@@ -61,5 +59,41 @@ fn what_no_draws_name_is_refused(rt: HostRuntime) -> Result<(), Fail> {
         seen: 1,
     };
     assert_eq!(rt; miscounted, Some(fault));
+    Ok(())
+}
+
+#[test]
+fn a_refusal_tells_its_numbers(rt: HostRuntime) -> Result<(), Fail> {
+    let (_zero, one) = threads();
+    for (fault, text) in [
+        (
+            JoinFault::Miscount {
+                thread: one,
+                counted: 2,
+                seen: 3,
+            },
+            "thread 1 is counted 2 and stands 3 times in the order",
+        ),
+        (
+            JoinFault::Offsets {
+                thread: one,
+                counted: 2,
+                seen: 3,
+            },
+            "thread 1 is counted 2 and has 3 offsets",
+        ),
+        (
+            JoinFault::Offset {
+                thread: one,
+                place: 4,
+                kept: 9,
+                below: 6,
+            },
+            "offset 4 of thread 1 is 9 and not below 6",
+        ),
+    ] {
+        let printed = format!(in rt.alloc(); "{fault}")?;
+        assert_eq!(rt; printed.as_str(), text);
+    }
     Ok(())
 }

@@ -86,7 +86,27 @@ fn draws_that_name_no_order_are_refused(rt: HostRuntime) -> Result<(), Fail> {
         &[0, 0],
         SplitFault::Length { kept: 2, needed: 3 },
     );
-    let text = format!(in rt.alloc(); "{large}")?;
-    assert_eq!(rt; text.as_str(), "draw 0 is 3 and not below 3");
+    Ok(())
+}
+
+#[test]
+fn a_refusal_tells_its_numbers(rt: HostRuntime) -> Result<(), Fail> {
+    for (fault, text) in [
+        (
+            SplitFault::Length { kept: 2, needed: 3 },
+            "2 draws where 3 are needed",
+        ),
+        (
+            SplitFault::Large {
+                place: 1,
+                kept: 7,
+                below: 5,
+            },
+            "draw 1 is 7 and not below 5",
+        ),
+    ] {
+        let printed = format!(in rt.alloc(); "{fault}")?;
+        assert_eq!(rt; printed.as_str(), text);
+    }
     Ok(())
 }
