@@ -70,7 +70,8 @@ each read place no_items = Ok []
 each read place (item d ds) = and_then (read place d) (λ value. and_then (each read (place + 1) ds) (λ values. Ok (value ∷ values)))
 
 -- an array of at most so many items, each read by the array's key and its place
-abbrev pub list : {A : Type 0} → (List ℕ → ℕ → Data → Result A ScenarioFault) → List ℕ → ℕ → Data → Result (List A) ScenarioFault
+abbrev pub list : {A : Type 0} → (List ℕ → ℕ → Data → Result A ScenarioFault) → List ℕ → ℕ → Data
+    → Result (List A) ScenarioFault
 list read key most d = and_then (array key most d) (each (read key) 0)
 
 -- such an array, or what stands for it where it is absent

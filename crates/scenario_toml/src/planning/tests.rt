@@ -3,6 +3,7 @@ ghost use Rattle.std.specs.Prelude.{◌≤◌};
 use super::*;
 use crate::read_scenario;
 use event_class::{Class, Event};
+use routine_kit::Routine;
 use seed_draws::{DrawFault, Draws};
 use std::alloc::AllocError;
 use std::test::Fail;
@@ -50,7 +51,7 @@ fn a_plan_of_all_keys(rt: HostRuntime) -> Result<(), Fail> {
         plan.selection.as_slice(),
         [Pickable::Of(Class::Cell), Pickable::LockNo(1)].as_slice()
     );
-    assert_eq!(rt; plan.walk.counts().as_slice(), [2, 3].as_slice());
+    assert_eq!(rt; plan.walk.counts(), [2, 3].as_slice());
     assert_eq!(rt;
         plan.monitors.as_slice(),
         [Monitor::Expect, Monitor::CellEnd { cell: 1, value: 9 }].as_slice()
@@ -86,7 +87,7 @@ fn a_choice_goes_before_the_file(rt: HostRuntime) -> Result<(), Fail> {
     };
     let plan = scenario.plan(rt.alloc(), &urw, scenario.counts())?;
     assert_eq!(rt; plan.selection.as_slice(), [Pickable::Every].as_slice());
-    assert_eq!(rt; plan.walk.counts().as_slice(), [2, 3].as_slice());
+    assert_eq!(rt; plan.walk.counts(), [2, 3].as_slice());
     Ok(())
 }
 
