@@ -205,7 +205,7 @@ fn as_many_threads_and_steps_as_there_can_be(rt: HostRuntime) -> Result<(), Fail
         verdict: Verdict::Ended,
         steps: 65_536,
         last: add(15, 65_535),
-        threads: 16,
+        threads: THREADS,
         cell: Some(65_536),
         failed: Some(65_536),
         bent: 0,
