@@ -39,7 +39,7 @@ impl Scenario {
             world: self.size,
             routines: copies(alloc, self.routines.as_slice())?,
             selection: selection(alloc, strategy, &self.select)?,
-            walk: Walk::new(alloc, rule, Weights::new(counts.as_slice()))?,
+            walk: Walk::new(alloc, rule, counts.copy())?,
             selected: AnyDraws::Strict(selected),
             other: AnyDraws::Loose(other),
             max_steps: self.max_steps,
