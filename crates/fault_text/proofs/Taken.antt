@@ -1,5 +1,5 @@
 -- A line that is taken piece by piece.
-use Rattle.std.proofs.Common.{◌≡◌, ℕ, zero, suc, ◌<◌, ◌≤◌, List, [], ◌∷◌, ◌++◌, length, take, drop, get_or, Option, Result, Ok, Err, OnErr, refl, ap, sym, ◌∙◌, append_assoc, arith}
+use Rattle.std.proofs.Common.{◌≡◌, ℕ, zero, suc, ◌<◌, ◌≤◌, List, [], ◌∷◌, ◌++◌, length, take, drop, get_or, Option, refl, ap, sym, ◌∙◌, append_assoc, arith}
 use Rattle.std.proofs.lemmas.List.{take_all}
 use Rattle.std.specs.List.{flat_map}
 use Rattle.surw_io.specs.Content.{with_end, HoldsPrefix}
@@ -60,8 +60,3 @@ line-around word items i d within =
 pub all-taken : (first before : Option (List ℕ)) (word : List ℕ) (items : List Item) (i : ℕ) → length items ≤ i → before ≡ with_end first (word ++ items_text (take i items))
     → before ≡ with_end first (word ++ items_text items)
 all-taken first before word items i past told = told ∙ ap (λ (xs : List Item). with_end first (word ++ items_text xs)) (take_all i items past)
-
--- what follows from what holds at an error
-pub err_more : {A E P Q : Type 0} (result : Result A E) → (P → Q) → OnErr result P → OnErr result Q
-err_more (Ok x) more holds = tt
-err_more (Err e) more holds = more holds

@@ -48,8 +48,10 @@ IsDrawsLine threads zero line = (counts : List ℕ) × IsListText (codes "counts
 IsDrawsLine threads (suc zero) line = (order : List ℕ) × IsListText (codes "order") order line × AreThreads order
 IsDrawsLine threads (suc (suc thread)) line = (offsets : List ℕ) × (thread < threads) × IsOffsetsLine thread offsets line
 
--- the bytes are no file of draws, and this is the number of the first wrong line. So many threads are counted, where the first line lists counts
+-- the bytes are no file of draws, and this is the number of the first wrong line; so many threads are counted,
+-- where the first line lists counts
 pub record IsOtherDraws (bytes : List ℕ) (number : ℕ) : Type 0 where
   pub threads : ℕ
-  pub counted : (counts : List ℕ) → IsListText (codes "counts") counts (slice_index_or (lines_of bytes) 0 []) → AreCounts counts → length counts ≡ threads
+  pub counted : (counts : List ℕ) → IsListText (codes "counts") counts (slice_index_or (lines_of bytes) 0 [])
+      → AreCounts counts → length counts ≡ threads
   pub first : IsFirstWrongLine (IsDrawsLine threads) (threads + 2) (lines_of bytes) number

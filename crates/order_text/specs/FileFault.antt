@@ -5,7 +5,8 @@ use Rattle.order_text.specs.declared.file_fault.FileFault.TheVariants.{Lines, Ou
 use Rattle.surw_base.specs.declared.list.ListFault.{ListFault}
 use Rattle.surw_base.specs.declared.list.ListFault.TheVariants as list
 
--- so many lines are asked for, and it is told of each place, from 0, which line has to stand there: this is the number, from 1, of the first that isn't so, is missing or follows the last
+-- so many lines are asked for, and it is told of each place, from 0, which line has to stand there: this is
+-- the number, from 1, of the first that isn't so, is missing or follows the last
 pub record IsFirstWrongLine (IsAsked : ℕ → List ℕ → Type 0) (many : ℕ) (lines : List (List ℕ)) (number : ℕ) : Type 0 where
   pub place : ℕ
   pub numbered : number ≡ place + 1

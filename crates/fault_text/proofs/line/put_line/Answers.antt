@@ -1,6 +1,7 @@
 use Rattle.std.proofs.Common.{[], ◌∷◌, ◌++◌, ◌<◌, ◌≤◌, length, drop, suc, sym, append_assoc, arith}
+use Rattle.std.proofs.lemmas.Result.{on_err_weaker}
 use Rattle.surw_io.proofs.Results.{on_err}
-use Rattle.fault_text.proofs.Taken.{all-taken, err_more, items_text, line-around, prefix_of_first, prefix_of_next}
+use Rattle.fault_text.proofs.Taken.{all-taken, items_text, line-around, prefix_of_first, prefix_of_next}
 use Rattle.fault_text.proofs.line.put_line.Goals as goal
 
 pub returns-in_err-put_all-clause-prefix : goal.returns-in_err-put_all-clause-prefix
@@ -22,5 +23,5 @@ returns-clause-prefix g c =
     let word = c.args.word.now in
     let items = c.args.items.now in
     let past : length items ≤ c.loop-item.item-index = omega (arith, c.loop-item-test.false) in
-    err_more _ (prefix_of_next _ _ _ (word ++ items_text items) _ (all-taken _ _ word items c.loop-item.item-index past c.loop-item.invariant.taken))
+    on_err_weaker _ (prefix_of_next _ _ _ (word ++ items_text items) _ (all-taken _ _ word items c.loop-item.item-index past c.loop-item.invariant.taken))
     c.put_all-2.ensures.prefix
