@@ -3,22 +3,15 @@
 #![tactic(auto)]
 
 use std::env::{self, Env};
-use std::io::{self, ErrorKind};
+use std::io;
 use std::process::ExitCode;
-use surw_cli::{Status, surw_plain};
+use surw_cli::status_of_words;
 use surw_io::{FileShelf, StdSink};
 
 fn main(rt: HostRuntime) -> ExitCode {
     let mut shelf = FileShelf::new(&rt);
     let mut out = StdSink::new(&rt);
-    let status = match words(&rt) {
-        Ok(words) => surw_plain(rt.alloc(), words.as_slice(), &mut shelf, &mut out),
-        // Words that are no text are like none at all: they ask for no job.
-        Err(error) if error.kind() == ErrorKind::InvalidData => {
-            surw_plain(rt.alloc(), &[], &mut shelf, &mut out)
-        }
-        Err(_) => Status::OutOfMemory,
-    };
+    let status = status_of_words(rt.alloc(), words(&rt), &mut shelf, &mut out);
     ExitCode::from(status.code())
 }
 

@@ -1,24 +1,26 @@
--- The job `plan` has one answer.
-use Rattle.std.proofs.Common.{◌≡◌, ◌⊎◌, ℕ, List, length, Option, Ok, Err, inl, inr, refl, ap, sym, subst, ◌∙◌}
+-- The job `plan` makes one answer of some bytes.
+use Rattle.std.proofs.Common.{◌≡◌, ℕ, List, length, Ok, Err, ap, sym, subst, ◌∙◌}
+use Rattle.fault_text.specs.declared.fault.Fault.TheVariants.{Scenario}
 use Rattle.report_text.specs.Report.{report_text}
-use Rattle.routine_kit.specs.AnyRoutine as routine
 use Rattle.routine_kit.specs.declared.any_routine.AnyRoutine.{AnyRoutine}
-use Rattle.run_rules.proofs.Tellings.{telling-one}
+use Rattle.run_rules.proofs.Outcomes.{one-outcome}
+use Rattle.run_rules.specs.Replies.{routines_say}
 use Rattle.run_rules.specs.Run.{IsRun, Outcome}
 use Rattle.run_rules.specs.Setup.{Script}
-use Rattle.run_rules.specs.Told.{routines_say}
 use Rattle.run_rules.specs.declared.plan.Plan.{Plan}
 use Rattle.scenario_toml.specs.Plan.{IsPlanOf}
 use Rattle.scenario_toml.specs.Scenario.{scenario_of}
 use Rattle.scenario_toml.specs.State.{ScenarioState}
 use Rattle.scenario_toml.specs.declared.choice.Choice.{Choice}
 use Rattle.scenario_toml.specs.declared.fault.ScenarioFault.{ScenarioFault}
+use Rattle.seed_draws.specs.Answers.{source_of}
+use Rattle.seed_draws.specs.AnyDraws.{any_draws}
 use Rattle.seed_draws.specs.declared.any_draws.AnyDraws.{AnyDraws}
-use Rattle.surw_io.specs.Content.{Entry}
-use Rattle.surw_cli.specs.Answer.{Answer, IsPlanAnswer, NoScenario, Refusal, Report}
-use Rattle.surw_cli.specs.Planned.{IsRunOf, any_source, counts_by, no_choice, script, status_of_run}
-use Rattle.surw_cli.specs.declared.fault.Fault.TheVariants.{Read, TooLong}
-use Rattle.surw_cli.proofs.OneFile.{IsFileAnswer, MakesOne}
+use Rattle.surw_cli.specs.Answer.{Answer, Report, Refusal}
+use Rattle.surw_cli.specs.PlanAnswer.{IsPlanReport, plan_answer}
+use Rattle.surw_cli.specs.Planned.{IsRunOf, any_routine, counts_by, no_choice, script, status_of_run}
+use Rattle.surw_cli.specs.declared.status.Status.{Status}
+use Rattle.surw_cli.proofs.OneFile.{MakesOne}
 
 -- two plans of a scenario are run in the same way
 script-one : (scenario : ScenarioState) (choice : Choice) (counts : List ℕ) (plan twin : Plan AnyRoutine AnyDraws AnyDraws)
@@ -39,12 +41,12 @@ script-one scenario choice counts plan twin is are =
         selection = selection i;
         rule = (walk i).rule;
         counts = (walk i).counts;
-        selected = any_source (selected i);
-        other = any_source (other i);
+        selected = source_of any_draws (selected i);
+        other = source_of any_draws (other i);
         max_steps = max_steps i;
         monitors = monitors i;
       };
-      says = routines_say routine.any_announced routine.any_after (routines i);
+      says = routines_say any_routine (routines i);
     })
 
 -- a scenario has one run
@@ -52,64 +54,33 @@ outcome-one : (scenario : ScenarioState) (outcome other : Outcome) → IsRunOf s
 outcome-one scenario outcome other is twin =
     let same : script twin.plan ≡ script is.plan =
     script-one scenario no_choice (counts_by scenario.strategy scenario) is.plan twin.plan is.planned twin.planned in
-    telling-one (script is.plan) outcome other is.run (subst (λ (s : Script). IsRun s other) same twin.run)
+    one-outcome (script is.plan) outcome other is.run (subst (λ (s : Script). IsRun s other) same twin.run)
 
--- the bytes are no scenario
-record IsUnformed (bytes : List ℕ) (answer : Answer) : Type 0 where
-  pub fault : ScenarioFault
-  pub refused : scenario_of bytes ≡ Err fault
-  pub is : answer ≡ NoScenario fault
-
--- the bytes are a scenario, whose run is printed
-record IsPlanned (bytes : List ℕ) (answer : Answer) : Type 0 where
-  pub scenario : ScenarioState
-  pub form : scenario_of bytes ≡ Ok scenario
-  pub outcome : Outcome
-  pub run : IsRunOf scenario outcome
-  pub is : answer ≡ Report (status_of_run outcome) (report_text outcome)
-
--- what the job makes of a file's bytes
-pub IsPlanMade : List ℕ → Answer → Type 0
-IsPlanMade bytes answer = IsUnformed bytes answer ⊎ IsPlanned bytes answer
-
-unformed-one : (bytes : List ℕ) (answer other : Answer) → IsUnformed bytes answer → IsUnformed bytes other → other ≡ answer
-unformed-one bytes answer other is twin =
-    let results : Err twin.fault ≡ Err is.fault = sym twin.refused ∙ is.refused in
-    let faults : twin.fault ≡ is.fault = cc results in
-    twin.is ∙ ap (λ (f : ScenarioFault). NoScenario f) faults ∙ sym is.is
-
-unformed-planned : (bytes : List ℕ) (answer other : Answer) → IsUnformed bytes answer → IsPlanned bytes other → ⊥
-unformed-planned bytes answer other is twin = cc (sym is.refused ∙ twin.form)
-
-planned-one : (bytes : List ℕ) (answer other : Answer) → IsPlanned bytes answer → IsPlanned bytes other → other ≡ answer
-planned-one bytes answer other is twin =
+report-one : (bytes : List ℕ) (status ending : Status) (text printed : List ℕ) → IsPlanReport bytes status text → IsPlanReport bytes ending printed
+    → Report ending printed ≡ Report status text
+report-one bytes status ending text printed is twin =
     let results : Ok twin.scenario ≡ Ok is.scenario = sym twin.form ∙ is.form in
     let scenarios : twin.scenario ≡ is.scenario = cc results in
-    let outcome : twin.outcome ≡ is.outcome = outcome-one is.scenario is.outcome twin.outcome is.run (subst (λ (s : ScenarioState). IsRunOf s twin.outcome) scenarios twin.run) in
-    twin.is ∙ ap (λ (r : Outcome). Report (status_of_run r) (report_text r)) outcome ∙ sym is.is
+    let run : IsRunOf is.scenario twin.outcome = subst (λ (s : ScenarioState). IsRunOf s twin.outcome) scenarios twin.run in
+    let outcomes : twin.outcome ≡ is.outcome = outcome-one is.scenario is.outcome twin.outcome is.run run in
+    let statuses : ending ≡ status = twin.ends ∙ ap status_of_run outcomes ∙ sym is.ends in
+    let texts : printed ≡ text = twin.printed ∙ ap report_text outcomes ∙ sym is.printed in
+    (λ i. Report (statuses i) (texts i))
 
-pub made-one : MakesOne IsPlanMade
-unfolding IsPlanMade
-made-one bytes answer other (inl is) (inl twin) = unformed-one bytes answer other is twin
-made-one bytes answer other (inl is) (inr twin) = absurd (unformed-planned bytes answer other is twin)
-made-one bytes answer other (inr is) (inl twin) = absurd (unformed-planned bytes other answer twin is)
-made-one bytes answer other (inr is) (inr twin) = planned-one bytes answer other is twin
+fault-one : (bytes : List ℕ) (fault other : ScenarioFault) → scenario_of bytes ≡ Err fault → scenario_of bytes ≡ Err other → Refusal (Scenario other) ≡ Refusal (Scenario fault)
+fault-one bytes fault other is twin =
+    let results : Err other ≡ Err fault = sym twin ∙ is in
+    let faults : other ≡ fault = cc results in
+    ap (λ (f : ScenarioFault). Refusal (Scenario f)) faults
 
--- an answer of the job is one for what the shelf gives
-pub as-file : (coming : Option Entry) (answer : Answer) → IsPlanAnswer coming answer → IsFileAnswer IsPlanMade coming answer
-unfolding IsPlanMade
-as-file coming (Report status text) is = inr (inr record {
-  bytes = is.file.bytes;
-  file = is.file.file;
-  made = inr record {
-    scenario = is.scenario;
-    form = is.file.form;
-    outcome = is.outcome;
-    run = is.run;
-    is = (λ i. Report (is.ends i) (is.printed i));
-  };
-})
-as-file coming (NoScenario fault) is = inr (inr record { bytes = is.bytes; file = is.file; made = inl record { fault = fault; refused = is.refused; is = refl } })
-as-file coming (Refusal Read) is = inl (is, refl)
-as-file coming (Refusal (TooLong limit)) is = inr (inl (is.1, ap (λ (n : ℕ). Refusal (TooLong n)) is.0))
-as-file coming (Refusal _) is = absurd is
+report-fault : (bytes : List ℕ) (status : Status) (text : List ℕ) (fault : ScenarioFault) → IsPlanReport bytes status text → scenario_of bytes ≡ Err fault → ⊥
+report-fault bytes status text fault is refused = cc (sym refused ∙ is.form)
+
+pub plan-one : MakesOne plan_answer
+plan-one bytes (Report status text) (Report ending printed) is twin = report-one bytes status ending text printed is twin
+plan-one bytes (Report status text) (Refusal (Scenario fault)) is twin = absurd (report-fault bytes status text fault is twin)
+plan-one bytes (Report status text) (Refusal _) is twin = absurd twin
+plan-one bytes (Refusal (Scenario fault)) (Report status text) is twin = absurd (report-fault bytes status text fault twin is)
+plan-one bytes (Refusal (Scenario fault)) (Refusal (Scenario other)) is twin = fault-one bytes fault other is twin
+plan-one bytes (Refusal (Scenario fault)) (Refusal _) is twin = absurd twin
+plan-one bytes (Refusal _) other is twin = absurd is

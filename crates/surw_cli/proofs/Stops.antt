@@ -1,111 +1,88 @@
--- Why a job stops at a file that is no order file, and how a job that stopped ends.
-use Rattle.std.proofs.Common.{Bool, true, false, cond, is_some, subst, sym, Result, Ok, Err, OnOk, OnErr, inl, inr, ⊎_elim, ◌⊎◌, ◌≡◌, ℕ, List, Option, refl}
+-- How a job stops, and how a job that stopped ends.
+use Rattle.std.proofs.Common.{Result, Ok, Err, OnOk, OnErr, inl, inr, ⊎_elim, ◌⊎◌, ◌≡◌, ◌≤◌, ℕ, List, arith, refl}
+use Rattle.std.proofs.lemmas.Bool.{cases_lt}
+use Rattle.fault_text.specs.FaultText.{fault_text}
+use Rattle.fault_text.specs.declared.fault.Fault.{Fault}
+use Rattle.fault_text.specs.declared.fault.Fault.TheVariants.{Words, Lines, Read, Length, Large, Miscount, Offsets, Offset, TooLong, Scenario}
+use Rattle.order_text.specs.DrawsFile.{IsOtherDraws}
+use Rattle.order_text.specs.FileFault.{IsOtherFile}
+use Rattle.order_text.specs.OrderFile.{IsOtherOrder}
+use Rattle.order_text.specs.declared.file_fault.FileFault.{FileFault}
+use Rattle.order_text.specs.declared.file_fault.FileFault.TheVariants as file
+use Rattle.surw_base.specs.declared.limits.TheConstants.{FILE_LIMIT}
 use Rattle.surw_io.specs.Cause.{HasCause}
-use Rattle.surw_io.specs.Content.{Entry, HoldsPrefix, with_end}
-use Rattle.std.specs.List.{list_any}
-use Rattle.run_rules.specs.declared.verdict.Verdict.{Verdict}
-use Rattle.run_rules.specs.declared.verdict.Verdict.TheVariants as verdict
-use Rattle.surw_cli.specs.Answer.{HasFile, IsAnswer, IsJobAnswer, Report}
-use Rattle.surw_cli.specs.DrawsFile.{IsOtherDraws}
-use Rattle.surw_cli.specs.FileFault.{IsOtherFile}
-use Rattle.surw_cli.specs.OrderFile.{IsOtherOrder}
-use Rattle.surw_cli.specs.Ending.{Call, Ends, IsCalm, WasReported, Wrote, WrotePrefix}
-use Rattle.surw_cli.specs.Fault.{fault_text, status_of}
-use Rattle.surw_cli.specs.Stop.{IsJobStop, IsStop, stop_of_file}
-use Rattle.surw_cli.specs.declared.fault.Fault.{Fault}
-use Rattle.surw_cli.specs.declared.fault.Fault.TheVariants.{Words, Lines, Read, Length, Large, Miscount, Offsets, Offset, TooLong}
-use Rattle.surw_cli.specs.declared.job.Stop.TheVariants.{Refused, Unformed}
-use Rattle.surw_cli.specs.declared.file_fault.FileFault.{FileFault}
-use Rattle.surw_cli.specs.declared.file_fault.FileFault.TheVariants as file
-use Rattle.surw_cli.specs.declared.words.Job.{Job}
-use Rattle.surw_cli.specs.declared.words.Job.TheVariants.{Order, Draws, Plan}
-use Rattle.surw_cli.specs.declared.status.Status.{Status}
-use Rattle.surw_cli.specs.declared.status.Status.TheVariants.{Done, Failing, Form, WrongCount, Asked, StepLimit, Draw}
-use Rattle.surw_cli.specs.Planned.{status_by}
-use Rattle.scenario_faults.specs.FaultText.{scenario_fault_text}
-use Rattle.scenario_toml.specs.declared.fault.ScenarioFault.{ScenarioFault}
+use Rattle.surw_io.specs.Content.{HoldsPrefix, with_end}
+use Rattle.surw_io.specs.Fetch.{IsRefused}
+use Rattle.surw_io.specs.declared.whole_file.FetchFault.{FetchFault}
+use Rattle.surw_io.specs.declared.whole_file.FetchFault.TheVariants as fetch
+use Rattle.surw_cli.specs.Answer.{Refusal}
+use Rattle.surw_cli.specs.Ask.{Ask, AsksFor}
+use Rattle.surw_cli.specs.CommandAnswer.{Coming, IsAnswer, OfJob, answer_of_job}
+use Rattle.surw_cli.specs.DrawsAnswer.{draws_answer}
+use Rattle.surw_cli.specs.Ending.{Call, Ends, IsCalm, WasRefused, Wrote, WrotePrefix}
+use Rattle.surw_cli.specs.FileAnswer.{HasFile, Long, Held}
+use Rattle.surw_cli.specs.OrderAnswer.{order_answer}
+use Rattle.surw_cli.specs.Status.{status_of}
+use Rattle.surw_cli.specs.Stop.{IsStop, IsStopOf, stop_of_fetch, stop_of_file}
+use Rattle.surw_cli.specs.declared.ask.Job.{Job}
+use Rattle.surw_cli.specs.declared.ask.Job.TheVariants.{Order, Draws, Plan}
+use Rattle.surw_cli.specs.declared.stop.Stop.{Stop}
+use Rattle.surw_cli.specs.declared.stop.Stop.TheVariants.{Refused, OutOfMemory}
 
--- what holds at a fault of a job's file is how the job stops
-pub order_file-stop : (coming : Option Entry) (before now : ℕ) (bytes : List ℕ) (fault : FileFault) → HasFile coming bytes → now ≡ before
-    → IsOtherFile (IsOtherOrder bytes) fault → IsJobStop Order coming before now (stop_of_file fault)
-order_file-stop coming before now bytes (file.Lines number) held calm other = (calm, record { bytes = bytes; file = held; wrong = other })
-order_file-stop coming before now bytes file.OutOfMemory held calm other = calm
+-- a file of another form is how a job over it stops
+pub order-stop : (bytes : List ℕ) (fault : FileFault) → IsOtherFile (IsOtherOrder bytes) fault → IsStopOf (order_answer bytes) (stop_of_file fault)
+order-stop bytes (file.Lines number) other = other
+order-stop bytes file.OutOfMemory other = tt
 
-pub draws_file-stop : (coming : Option Entry) (before now : ℕ) (bytes : List ℕ) (fault : FileFault) → HasFile coming bytes → now ≡ before
-    → IsOtherFile (IsOtherDraws bytes) fault → IsJobStop Draws coming before now (stop_of_file fault)
-draws_file-stop coming before now bytes (file.Lines number) held calm other = (calm, record { bytes = bytes; file = held; wrong = other })
-draws_file-stop coming before now bytes file.OutOfMemory held calm other = calm
+pub draws-stop : (bytes : List ℕ) (fault : FileFault) → IsOtherFile (IsOtherDraws bytes) fault → IsStopOf (draws_answer bytes) (stop_of_file fault)
+draws-stop bytes (file.Lines number) other = other
+draws-stop bytes file.OutOfMemory other = tt
+
+-- no job is refused for a fault of the shelf
+made-read : (job : Job) (bytes : List ℕ) → answer_of_job job bytes (Refusal Read) → ⊥
+made-read Order bytes made = made
+made-read Draws bytes made = made
+made-read Plan bytes made = made
+
+-- a job that stopped over the bytes of its file stopped so
+pub asked-stop : (jobs : List Job) (words : List (List ℕ)) (coming : Coming) (before now : ℕ) (ask : Ask) (bytes : List ℕ) (stop : Stop)
+    → AsksFor jobs words ask → HasFile FILE_LIMIT (coming ask.name) bytes → now ≡ before → IsStopOf (answer_of_job ask.job bytes) stop
+    → IsStop jobs words coming before now stop
+asked-stop jobs words coming before now ask bytes (Refused Read) asked file calm made = absurd (made-read ask.job bytes made)
+asked-stop jobs words coming before now ask bytes (Refused fault) asked file calm made = (calm, OfJob ask asked (Held bytes file made))
+asked-stop jobs words coming before now ask bytes OutOfMemory asked file calm made = calm
+
+was-refused : (call : Call) (fault : Fault) → IsCalm call × IsAnswer call.jobs call.words call.coming (Refusal fault)
+    → Wrote call (fault_text fault) ⊎ WrotePrefix call (fault_text fault) → WasRefused call (status_of fault)
+was-refused call fault stop told = record { fault = fault; is = refl; cause = stop.1; told = told; calm = stop.0 }
 
 -- a job that stopped at a fault, whose line was written or begun, ends with the fault's status
-pub refusal-ends : (call : Call) (fault : Fault) → IsStop call.words call.coming call.shelf_before call.shelf_now (Refused fault)
+pub refusal-ends : (call : Call) (fault : Fault) → IsStop call.jobs call.words call.coming call.shelf_before call.shelf_now (Refused fault)
     → Wrote call (fault_text fault) ⊎ WrotePrefix call (fault_text fault) → Ends call (status_of fault)
-refusal-ends call Words stop told = record { fault = Words; is = refl; cause = stop.1; told = told; calm = stop.0 }
-refusal-ends call (Lines number) stop told = inl (record { fault = Lines number; is = refl; cause = stop.1; told = told; calm = stop.0 })
+refusal-ends call Words stop told = was-refused call Words stop told
+refusal-ends call (Lines number) stop told = was-refused call (Lines number) stop told
 refusal-ends call Read stop told = record { cause = stop; told = told }
-refusal-ends call (Length kept needed) stop told = inr (record { fault = Length kept needed; is = refl; cause = stop.1; told = told; calm = stop.0 })
-refusal-ends call (Large place kept below) stop told = inr (record { fault = Large place kept below; is = refl; cause = stop.1; told = told; calm = stop.0 })
-refusal-ends call (Miscount thread counted seen) stop told = inr (record { fault = Miscount thread counted seen; is = refl; cause = stop.1; told = told; calm = stop.0 })
-refusal-ends call (Offsets thread counted seen) stop told = inr (record { fault = Offsets thread counted seen; is = refl; cause = stop.1; told = told; calm = stop.0 })
-refusal-ends call (Offset thread place kept below) stop told = inr (record { fault = Offset thread place kept below; is = refl; cause = stop.1; told = told; calm = stop.0 })
-refusal-ends call (TooLong limit) stop told = record { fault = TooLong limit; is = refl; cause = stop.1; told = told; calm = stop.0 }
-
--- a job whose file is no scenario, and the fault's line was written or begun, ends with the status of a wrong form
-pub unformed-ends : (call : Call) (fault : ScenarioFault) → IsStop call.words call.coming call.shelf_before call.shelf_now (Unformed fault)
-    → Wrote call (scenario_fault_text fault) ⊎ WrotePrefix call (scenario_fault_text fault) → Ends call Form
-unformed-ends call fault stop told = inr (record { fault = fault; cause = stop.1; told = told; calm = stop.0 })
-
--- a status that a report can end with
-IsReportable : Status → Type 0
-IsReportable Done = Unit {0}
-IsReportable Failing = Unit {0}
-IsReportable WrongCount = Unit {0}
-IsReportable Asked = Unit {0}
-IsReportable StepLimit = Unit {0}
-IsReportable Draw = Unit {0}
-IsReportable _ = ⊥
-
-reportable-end : (failed : Bool) → IsReportable (cond failed Failing Done)
-unfolding IsReportable
-reportable-end true = tt
-reportable-end false = tt
-
-reportable-run : (found : Verdict) (failed : Bool) → IsReportable (status_by found failed)
-unfolding IsReportable
-reportable-run verdict.Ended failed = reportable-end failed
-reportable-run (verdict.Deadlock step) failed = tt
-reportable-run (verdict.WrongCount step thread counted seen) failed = tt
-reportable-run (verdict.Draw step fault) failed = tt
-reportable-run (verdict.Asked step thread event announced) failed = tt
-reportable-run (verdict.Left step thread) failed = tt
-reportable-run (verdict.StepLimit step) failed = tt
-
-reportable-job : (job : Job) (coming : Option Entry) (status : Status) (text : List ℕ) → IsJobAnswer job coming (Report status text) → IsReportable status
-unfolding IsReportable
-reportable-job Order coming Done text answered = tt
-reportable-job Order coming _ text answered = absurd answered
-reportable-job Draws coming Done text answered = tt
-reportable-job Draws coming _ text answered = absurd answered
-reportable-job Plan coming status text answered =
-    subst (λ s. IsReportable s) (sym answered.ends) (reportable-run answered.outcome.verdict (list_any is_some answered.outcome.failed))
-
-reported-ends : (call : Call) (status : Status) → IsReportable status → WasReported call status → Ends call status
-unfolding IsReportable
-reported-ends call Done can was = was
-reported-ends call Failing can was = was
-reported-ends call WrongCount can was = was
-reported-ends call Asked can was = was
-reported-ends call StepLimit can was = was
-reported-ends call Draw can was = inl was
-reported-ends call _ can was = absurd can
-
--- a report that was written ends with its status
-pub report-ends : (call : Call) (status : Status) (text : List ℕ) → IsAnswer call.words call.coming (Report status text) → Wrote call text → IsCalm call → Ends call status
-report-ends call status text cause told calm =
-    reported-ends call status (reportable-job cause.job (call.coming cause.name) status text cause.answered)
-    (record { text = text; cause = cause; told = told; calm = calm })
+refusal-ends call (Length kept needed) stop told = inr (was-refused call (Length kept needed) stop told)
+refusal-ends call (Large place kept below) stop told = inr (was-refused call (Large place kept below) stop told)
+refusal-ends call (Miscount thread counted seen) stop told = inr (was-refused call (Miscount thread counted seen) stop told)
+refusal-ends call (Offsets thread counted seen) stop told = inr (was-refused call (Offsets thread counted seen) stop told)
+refusal-ends call (Offset thread place kept below) stop told = inr (was-refused call (Offset thread place kept below) stop told)
+refusal-ends call (TooLong limit) stop told = was-refused call (TooLong limit) stop told
+refusal-ends call (Scenario cause) stop told = was-refused call (Scenario cause) stop told
 
 -- what a writer of a text leaves: all of it, or a prefix where the sink failed
 pub told : {A E : Type 0} (call : Call) (text : List ℕ) (result : Result A E) → OnOk result (call.taken_now ≡ with_end call.taken_before text)
     → OnErr result (HoldsPrefix call.taken_before text call.taken_now) → HasCause call.sink_before call.sink_now result ⊥ → Wrote call text ⊎ WrotePrefix call text
 told call text (Ok x) all prefix cause = inl (record { added = all; calm = cause.calm })
 told call text (Err e) all prefix cause = inr (record { added = prefix; rose = ⊎_elim (λ rose. rose) (λ none. absurd none) cause.rose })
+
+-- a file that wasn't fetched is how a job stops
+pub fetch-stop : (jobs : List Job) (words : List (List ℕ)) (coming : Coming) (before now : ℕ) (ask : Ask) (fault : FetchFault) → AsksFor jobs words ask
+    → before ≤ now → IsRefused (coming ask.name) FILE_LIMIT before now fault → IsStop jobs words coming before now (stop_of_fetch fault)
+fetch-stop jobs words coming before now ask fetch.Failed asked rises (inl rose) = record { ask = ask; asked = asked; cause = inl rose }
+fetch-stop jobs words coming before now ask fetch.Failed asked rises (inr missing) = elim (cases_lt before now) [
+  | inl more ↦ record { ask = ask; asked = asked; cause = inl (omega (arith, more)) }
+  | inr no_more ↦ record { ask = ask; asked = asked; cause = inr (omega (arith, no_more, rises), missing) }
+]
+fetch-stop jobs words coming before now ask (fetch.TooLong taken) asked rises refused = (refused.2, OfJob ask asked (Long refused.1 refl))
+fetch-stop jobs words coming before now ask fetch.OutOfMemory asked rises refused = refused

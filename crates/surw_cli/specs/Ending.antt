@@ -2,18 +2,20 @@
 use Rattle.std.specs.Prelude.{◌≡◌, ◌⊎◌, ℕ, List, Option}
 use Rattle.surw_io.specs.Cause.{Rose}
 use Rattle.surw_io.specs.Content.{with_end, HoldsPrefix}
-use Rattle.scenario_faults.specs.FaultText.{scenario_fault_text}
-use Rattle.scenario_toml.specs.declared.fault.ScenarioFault.{ScenarioFault}
-use Rattle.surw_cli.specs.Answer.{Answer, Report, Refusal, NoScenario, Coming, IsAnswer}
-use Rattle.surw_cli.specs.Fault.{fault_text, status_of}
+use Rattle.fault_text.specs.FaultText.{fault_text}
+use Rattle.fault_text.specs.declared.fault.Fault.{Fault}
+use Rattle.fault_text.specs.declared.fault.Fault.TheVariants.{Read}
+use Rattle.surw_cli.specs.Answer.{Answer, Report, Refusal}
+use Rattle.surw_cli.specs.CommandAnswer.{Coming, IsAnswer}
+use Rattle.surw_cli.specs.Status.{status_of}
 use Rattle.surw_cli.specs.Stop.{IsUnread}
-use Rattle.surw_cli.specs.declared.fault.Fault.{Fault}
-use Rattle.surw_cli.specs.declared.fault.Fault.TheVariants.{Read}
+use Rattle.surw_cli.specs.declared.ask.Job.{Job}
 use Rattle.surw_cli.specs.declared.status.Status.{Status}
 use Rattle.surw_cli.specs.declared.status.Status.TheVariants.{Done, Failing, Words, Form, WrongCount, Asked, StepLimit, ReadFault, WriteFault, OutOfMemory, Draw, TooLong}
 
--- what a call was given, and what it changed: the counts of faults and what the sink has taken
+-- what a call does and was given, and what it changed: the counts of faults and what the sink has taken
 pub record Call : Type 0 where
+  pub jobs : List Job
   pub words : List (List ℕ)
   pub coming : Coming
   pub shelf_before : ℕ
@@ -41,21 +43,14 @@ pub record WrotePrefix (call : Call) (text : List ℕ) : Type 0 where
 pub record WasRefused (call : Call) (status : Status) : Type 0 where
   pub fault : Fault
   pub is : status ≡ status_of fault
-  pub cause : IsAnswer call.words call.coming (Refusal fault)
+  pub cause : IsAnswer call.jobs call.words call.coming (Refusal fault)
   pub told : Wrote call (fault_text fault) ⊎ WrotePrefix call (fault_text fault)
-  pub calm : IsCalm call
-
--- the file is no scenario: its first fault was told as far as the sink took it
-pub record WasUnformed (call : Call) : Type 0 where
-  pub fault : ScenarioFault
-  pub cause : IsAnswer call.words call.coming (NoScenario fault)
-  pub told : Wrote call (scenario_fault_text fault) ⊎ WrotePrefix call (scenario_fault_text fault)
   pub calm : IsCalm call
 
 -- the report that ends with this status was written
 pub record WasReported (call : Call) (status : Status) : Type 0 where
   pub text : List ℕ
-  pub cause : IsAnswer call.words call.coming (Report status text)
+  pub cause : IsAnswer call.jobs call.words call.coming (Report status text)
   pub told : Wrote call text
   pub calm : IsCalm call
 
@@ -63,13 +58,13 @@ pub record WasReported (call : Call) (status : Status) : Type 0 where
 pub record FailedToWrite (call : Call) : Type 0 where
   pub status : Status
   pub text : List ℕ
-  pub cause : IsAnswer call.words call.coming (Report status text)
+  pub cause : IsAnswer call.jobs call.words call.coming (Report status text)
   pub told : WrotePrefix call text
   pub calm : IsCalm call
 
 -- the shelf failed, or has no such file
 pub record FailedToRead (call : Call) : Type 0 where
-  pub cause : IsUnread call.words call.coming call.shelf_before call.shelf_now
+  pub cause : IsUnread call.jobs call.words call.coming call.shelf_before call.shelf_now
   pub told : Wrote call (fault_text Read) ⊎ WrotePrefix call (fault_text Read)
 
 -- nothing was written
@@ -83,7 +78,7 @@ abbrev pub Ends : Call → Status → Type 0
 Ends call Done = WasReported call Done
 Ends call Failing = WasReported call Failing
 Ends call Words = WasRefused call Words
-Ends call Form = WasRefused call Form ⊎ WasUnformed call
+Ends call Form = WasRefused call Form
 Ends call WrongCount = WasReported call WrongCount
 Ends call Asked = WasReported call Asked
 Ends call StepLimit = WasReported call StepLimit
@@ -97,11 +92,10 @@ Ends call _ = ⊥
 -- the status of an answer
 abbrev pub answer_status : Answer → Status
 answer_status (Report status text) = status
-answer_status (NoScenario fault) = Form
 answer_status (Refusal fault) = status_of fault
 
 -- the status is that of the answer to the words
-pub record IsAnswered (words : List (List ℕ)) (coming : Coming) (status : Status) : Type 0 where
+pub record IsAnswered (jobs : List Job) (words : List (List ℕ)) (coming : Coming) (status : Status) : Type 0 where
   pub answer : Answer
-  pub cause : IsAnswer words coming answer
+  pub cause : IsAnswer jobs words coming answer
   pub is : status ≡ answer_status answer

@@ -2,7 +2,8 @@
 use Rattle.std.specs.Prelude.{ℕ, Bool, List, length, replicate, None, is_some, if◌then◌else◌}
 use Rattle.std.specs.List.{list_any}
 use Rattle.routine_kit.specs.declared.any_routine.AnyRoutine.{AnyRoutine}
-use Rattle.routine_kit.specs.AnyRoutine as routine
+use Rattle.routine_kit.specs.declared.routine.Routine.{Ghosts}
+use Rattle.routine_kit.specs.AnyRoutine.{any_announced, any_after}
 use Rattle.run_rules.specs.declared.plan.Plan.{Plan}
 use Rattle.run_rules.specs.declared.verdict.Verdict.{Verdict}
 use Rattle.run_rules.specs.declared.verdict.Verdict.TheVariants as verdict
@@ -17,7 +18,6 @@ use Rattle.scenario_toml.specs.Plan.{IsPlanOf}
 use Rattle.scenario_toml.specs.State.{ScenarioState}
 use Rattle.seed_draws.specs.declared.any_draws.AnyDraws.{AnyDraws}
 use Rattle.seed_draws.specs.AnyDraws.{any_draws}
-use Rattle.seed_draws.specs.Answers.{Source, source_of}
 use Rattle.surw_cli.specs.declared.status.Status.{Status}
 use Rattle.surw_cli.specs.declared.status.Status.TheVariants.{Done, Failing, WrongCount, Asked, StepLimit, Draw}
 
@@ -30,13 +30,13 @@ counts_by strategy scenario = scenario.counts
 abbrev pub no_choice : Choice
 no_choice = record { strategy = None; seed = None; depth = None }
 
--- a source of draws of any kind, by its answers
-abbrev pub any_source : AnyDraws → Source
-any_source source = source_of any_draws source
+-- how a routine of either kind goes on
+abbrev pub any_routine : Ghosts AnyRoutine
+any_routine = record { announced = any_announced; after_reply = any_after }
 
 -- a plan of a scenario, by its setup and by what its routines announce
 abbrev pub script : Plan AnyRoutine AnyDraws AnyDraws → Script
-script plan = script_of routine.any_announced routine.any_after (any_source plan.selected) (any_source plan.other) plan
+script plan = script_of any_routine any_draws any_draws plan
 
 -- the run of the scenario's plan; under SURW it keeps the promise on the order of the selected events
 pub record IsRunOf (scenario : ScenarioState) (outcome : Outcome) : Type 0 where

@@ -1,5 +1,7 @@
--- The number of each status.
+-- The number of each status, and the status of a refusal.
 use Rattle.std.specs.Prelude.{ℕ}
+use Rattle.fault_text.specs.declared.fault.Fault.{Fault}
+use Rattle.fault_text.specs.declared.fault.Fault.TheVariants as fault
 use Rattle.surw_cli.specs.declared.status.Status.{Status}
 use Rattle.surw_cli.specs.declared.status.Status.TheVariants.{Done, Failing, Words, Form, WrongCount, Asked, SavedForm, StepLimit, ReadFault, WriteFault, OutOfMemory, Draw, TooLong}
 
@@ -17,3 +19,16 @@ code WriteFault = 9
 code OutOfMemory = 10
 code Draw = 11
 code TooLong = 12
+
+-- the status that a refusal ends with
+abbrev pub status_of : Fault → Status
+status_of fault.Words = Words
+status_of (fault.Lines number) = Form
+status_of fault.Read = ReadFault
+status_of (fault.Length kept needed) = Draw
+status_of (fault.Large place kept below) = Draw
+status_of (fault.Miscount thread counted seen) = Draw
+status_of (fault.Offsets thread counted seen) = Draw
+status_of (fault.Offset thread place kept below) = Draw
+status_of (fault.TooLong limit) = TooLong
+status_of (fault.Scenario cause) = Form

@@ -1,6 +1,7 @@
 //! What follows from the contract of the top call, and what pins it.
 ghost use Rattle.std.specs.Prelude.{◌≡◌, ◌≢◌, ◌⊎◌, Some, map, string_bytes};
-ghost use Rattle.surw_cli.specs.Answer.{OneAnswer};
+ghost use Rattle.surw_cli.specs.Ask.{plain_jobs};
+ghost use Rattle.surw_cli.specs.CommandAnswer.{OneAnswer};
 ghost use Rattle.surw_cli.specs.Ending.{IsAnswered};
 ghost use Rattle.surw_io.specs.Content.{File};
 
@@ -15,7 +16,7 @@ pub fn over_safe_devices(alloc: Global, words: &[String], file: &[u8]) -> Status
     ensures no_read_fault { result ≢ Status.ReadFault }
     ensures no_write_fault { result ≢ Status.WriteFault }
     ensures answered { (result ≡ Status.OutOfMemory)
-        ⊎ IsAnswered (map string_bytes words.now) (λ _. Some (File file.now)) result }
+        ⊎ IsAnswered plain_jobs (map string_bytes words.now) (λ _. Some (File file.now)) result }
 {
     let mut shelf = SafeShelf::new(file, file);
     let mut out = SafeSink::new();

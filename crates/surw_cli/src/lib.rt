@@ -1,19 +1,15 @@
 //! The top call of SURW: words and a shelf of files in, a status and a report out.
 #![tactic(auto)]
 
-mod counts;
-mod draws_file;
-mod fault;
-mod file_fault;
-mod job;
+mod ask;
+mod command_line;
+mod jobs;
 pub mod laws;
-mod lines;
-mod order_file;
-mod planning;
 mod report;
 mod status;
+mod stop;
 mod top;
-mod words;
 
+pub use command_line::status_of_words;
 pub use status::Status;
 pub use top::surw_plain;

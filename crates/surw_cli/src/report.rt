@@ -1,69 +1,10 @@
-ghost use Rattle.std.specs.Prelude.{◌≡◌, ◌≤◌, ◌∷◌, ◌++◌, [], codes, IfOk, OnOk, slice_index_or};
-ghost use Rattle.std.specs.Fmt.{decimal};
-ghost use Rattle.surw_cli.specs.DrawsText.{draws_text};
-ghost use Rattle.surw_cli.specs.Lines.{line, list_text};
-ghost use Rattle.surw_cli.specs.OrderText.{order_text};
+use crate::status::Status;
 
-use draw_split::Split;
-use std::alloc::Global;
-use surw_base::{OutOfMemory, THREADS, ThreadNo, push_number};
-
-/// What the job `order` prints of a split: the order, and the offsets of each of the first `threads` threads.
-pub fn order_text(alloc: Global, threads: usize, split: &Split) -> Result<Vec<u8>, OutOfMemory>
-    requires { threads ≤ THREADS }
-    ensures { IfOk result (λ text. text.items ≡ order_text threads split.now) }
-{
-    let mut text = Vec::new(alloc);
-    push_order(&mut text, split.order())?;
-    for number in 0..threads {
-        let thread = ThreadNo::new(number as u8).unwrap();
-        push_offsets(&mut text, thread, split.offsets(thread))?;
-    }
-    Ok(text)
-}
-
-/// What the job `draws` prints of some draws.
-pub fn draws_text(alloc: Global, draws: &[u64]) -> Result<Vec<u8>, OutOfMemory>
-    ensures { IfOk result (λ text. text.items ≡ draws_text draws.now) }
-{
-    let mut text = Vec::new(alloc);
-    text.extend_from_slice(b"draws")?;
-    for draw in draws {
-        push_item(&mut text, *draw)?;
-    }
-    text.push(b'\n')?;
-    Ok(text)
-}
-
-// Appends the line of the order.
-fn push_order(text: &mut Vec<u8>, order: &[ThreadNo]) -> Result<(), OutOfMemory>
-    ensures { OnOk result (text.new.items ≡ text.old.items ++ line (list_text (codes "order") order.now)) }
-{
-    text.extend_from_slice(b"order")?;
-    for thread in order {
-        push_item(text, u64::from(thread.get()))?;
-    }
-    text.push(b'\n')?;
-    Ok(())
-}
-
-// Appends the line of a thread's offsets.
-fn push_offsets(text: &mut Vec<u8>, thread: ThreadNo, offsets: &[u32]) -> Result<(), OutOfMemory>
-    ensures { OnOk result (text.new.items ≡ text.old.items ++ line (list_text (codes "offsets") (thread ∷ offsets.now))) }
-{
-    text.extend_from_slice(b"offsets")?;
-    push_item(text, u64::from(thread.get()))?;
-    for offset in offsets {
-        push_item(text, u64::from(*offset))?;
-    }
-    text.push(b'\n')?;
-    Ok(())
-}
-
-// Appends a space and a number.
-fn push_item(text: &mut Vec<u8>, number: u64) -> Result<(), OutOfMemory>
-    ensures { OnOk result (text.new.items ≡ text.old.items ++ 32 ∷ decimal number) }
-{
-    text.push(b' ')?;
-    push_number(text, number)
+/// What a job prints, and the status that it ends with.
+#[derive(Debug, Drop)]
+pub(crate) struct Report {
+    /// The status.
+    pub status: Status,
+    /// The text.
+    pub text: Vec<u8>,
 }

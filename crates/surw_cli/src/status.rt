@@ -1,5 +1,7 @@
 ghost use Rattle.std.specs.Prelude.{◌≡◌};
-ghost use Rattle.surw_cli.specs.Status.{code};
+ghost use Rattle.surw_cli.specs.Status.{code, status_of};
+
+use fault_text::Fault;
 
 /// How a call of the program ends.
 #[derive(Clone, Copy, Debug, PartialEq, Eq)]
@@ -33,6 +35,20 @@ pub enum Status {
 }
 
 impl Status {
+    /// The status that a refusal ends with.
+    pub(crate) fn of(fault: &Fault) -> Status
+        ensures { result ≡ status_of fault.now }
+    {
+        match fault {
+            Fault::Words => Status::Words,
+            Fault::Lines { .. } | Fault::Scenario(_) => Status::Form,
+            Fault::Read => Status::ReadFault,
+            Fault::Length { .. } | Fault::Large { .. } => Status::Draw,
+            Fault::Miscount { .. } | Fault::Offsets { .. } | Fault::Offset { .. } => Status::Draw,
+            Fault::TooLong { .. } => Status::TooLong,
+        }
+    }
+
     /// The number that the process ends with, from 0 to 12.
     pub fn code(&self) -> u8
         ensures { result ≡ code self.now }

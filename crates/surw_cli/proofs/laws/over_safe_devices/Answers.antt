@@ -1,5 +1,6 @@
 use Rattle.std.proofs.Common.{◌≡◌, ◌⊎◌, Some, None, map, string_bytes, subst, arith}
-use Rattle.surw_cli.specs.Answer.{Coming}
+use Rattle.surw_cli.specs.Ask.{plain_jobs}
+use Rattle.surw_cli.specs.CommandAnswer.{Coming}
 use Rattle.surw_cli.specs.Ending.{Call, IsAnswered}
 use Rattle.surw_cli.specs.declared.status.Status.TheVariants.{OutOfMemory}
 use Rattle.surw_cli.proofs.Safe.{safe-answered}
@@ -13,6 +14,7 @@ returns-clause-answered c =
     let given : Coming = λ name. Some (File c.args.file.now) in
     let same : held ≡ given = λ i name. c.new-shelf.ensures.coming name i in
     let call : Call = record {
+      jobs = plain_jobs;
       words = words;
       coming = held;
       shelf_before = 0;
@@ -23,5 +25,5 @@ returns-clause-answered c =
       taken_now = None;
     } in
     let status = c.surw_plain.result in
-    subst (λ (coming : Coming). (status ≡ OutOfMemory) ⊎ IsAnswered words coming status) same
+    subst (λ (coming : Coming). (status ≡ OutOfMemory) ⊎ IsAnswered plain_jobs words coming status) same
     (safe-answered call status (λ rose. omega arith) (λ rose. omega arith) (λ name is. cc is) c.surw_plain.ensures.ends)

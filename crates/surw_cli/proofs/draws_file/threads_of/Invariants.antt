@@ -1,9 +1,0 @@
-use Rattle.std.proofs.Common.{◌≡◌, ◌<◌, take, All}
-use Rattle.surw_base.specs.declared.limits.TheConstants.{THREADS}
-use Rattle.surw_cli.proofs.draws_file.threads_of.Given as goal
-
-abbrev pub invariant-loop-number : goal.invariant-loop-number
-invariant-loop-number l = record {
-  pushed : l.threads.items ≡ take l.number-index l.numbers;
-  below : All (λ thread. thread < THREADS) (take l.number-index l.numbers);
-}

@@ -1,0 +1,22 @@
+use Rattle.std.proofs.lemmas.Result.{err_from_is_err_and}
+use Rattle.surw_cli.proofs.jobs.plan.report_of_plan.Goals as goal
+
+pub returns-in_err-text-clause-stopped : goal.returns-in_err-text-clause-stopped
+returns-in_err-text-clause-stopped c =
+    let p = err_from_is_err_and c.from_residual-in_err-text.result c.from_residual-in_err-text.ensures.1 in
+    rw (p.1, p.2) tt
+
+pub returns-clause-report : goal.returns-clause-report
+returns-clause-report c = record {
+  scenario = c.in_ok-scenario.scenario;
+  form = c.in_ok-scenario.ensures.ok;
+  outcome = c.in_ok-run.run';
+  run = record {
+    plan = c.in_ok-plan.plan;
+    planned = rw (← c.counts-counts.ensures) c.in_ok-plan.ensures.plan;
+    run = c.in_ok-run.ensures.run;
+    order = c.in_ok-run.ensures.order;
+  };
+  printed = c.in_ok-text.ensures;
+  ends = c.status_of.ensures;
+}
