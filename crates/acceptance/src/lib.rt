@@ -7,6 +7,6 @@ mod command;
 #[cfg(test)]
 mod devices;
 #[cfg(test)]
-mod lost_update;
+mod draw_lists;
 #[cfg(test)]
-mod selected_order;
+mod lost_update;
