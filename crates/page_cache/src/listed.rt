@@ -1,4 +1,5 @@
 ghost use Rattle.std.specs.Prelude.{◌≡◌, ◌<◌, ◌≤◌, All, length};
+ghost use Rattle.surw_base.specs.declared.limits.TheConstants.{FRAMES};
 ghost use Rattle.frame_links.specs.Lists.{list_at, node_count, HasEachOnce};
 
 use crate::Vec16;
@@ -7,7 +8,7 @@ use frame_links::Links;
 /// The nodes of a list, in its order.
 pub(crate) fn listed(links: &Links, list: u8) -> Vec16
     requires list { list < length links.now }
-    requires few { node_count links.now ≤ 64 }
+    requires few { node_count links.now ≤ FRAMES }
     requires each_once { HasEachOnce links.now }
     ensures list { result ≡ list_at links.now list }
     ensures within { All (λ node. node < node_count links.now) result }
