@@ -8,7 +8,7 @@ use Rattle.seed_draws.specs.Answers.{Source}
 use Rattle.test_world.specs.declared.monitor.Monitor.{Monitor}
 use Rattle.test_world.specs.declared.size.WorldSize.{WorldSize}
 use Rattle.test_world.specs.Monitor.{CanWatch}
-use Rattle.test_world.specs.Size.{IsWithinLimits, HasNoDevices}
+use Rattle.test_world.specs.Size.{IsWithinLimits}
 use Rattle.walk_rules.specs.declared.rule.Rule.{Rule}
 use Rattle.walk_rules.specs.Strategies.{wants_every}
 
@@ -36,7 +36,6 @@ SelectsAllUnder rule selection = IsTrue (wants_every rule) → selection ≡ Eve
 -- a setup that a run can be made of
 pub record IsValid (setup : Setup) : Type 0 where
   pub limits : IsWithinLimits setup.size
-  pub no_devices : HasNoDevices setup.size
   pub threads : setup.threads ≤ THREADS
   pub counted : length setup.counts ≡ setup.threads
   pub few : sum setup.counts ≤ STEPS

@@ -1,7 +1,7 @@
 use Rattle.std.proofs.Common.{All, false, map, replicate, ap, sym, subst, ◌∙◌, arith}
 use Rattle.seed_draws.specs.Answers.{source_of}
 use Rattle.test_world.specs.Monitor.{CanWatch}
-use Rattle.test_world.specs.Size.{HasNoDevices, IsWithinLimits}
+use Rattle.test_world.specs.Size.{IsWithinLimits}
 use Rattle.test_world.specs.World.{new_world}
 use Rattle.walk_rules.specs.declared.seen.Seen.TheVariants as seen
 use Rattle.run_rules.specs.Setup.{IsValid}
@@ -25,9 +25,6 @@ valid g c = c.requires.valid (source_of g.S.Draws c.args.opening.now.selected) (
 
 pub new-requires-clause-limits : goal.new-requires-clause-limits
 new-requires-clause-limits g c = subst (λ size. IsWithinLimits size) (sym c.size.ensures) (valid g (goal.at.new-requires-clause-limits g c).Start).limits
-
-pub new-requires-clause-no_devices : goal.new-requires-clause-no_devices
-new-requires-clause-no_devices g c = subst (λ size. HasNoDevices size) (sym c.size.ensures) (valid g (goal.at.new-requires-clause-no_devices g c).Start).no_devices
 
 pub places_at_start-requires : goal.places_at_start-requires
 places_at_start-requires g c =
