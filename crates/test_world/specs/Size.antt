@@ -1,7 +1,8 @@
--- Sizes of worlds.
-use Rattle.std.specs.Prelude.{◌≡◌, ◌≤◌, ℕ, List, Option, length}
+-- Sizes of worlds, and the worlds of a size.
+use Rattle.std.specs.Prelude.{◌≡◌, ◌≤◌, length}
 use Rattle.surw_base.specs.declared.limits.TheConstants.{CELLS, LOCKS, FRAMES, PAGES, SLOTS}
 use Rattle.test_world.specs.declared.size.WorldSize.{WorldSize}
+use Rattle.test_world.specs.World.{WorldState}
 
 -- a size within the limits
 pub record IsWithinLimits (size : WorldSize) : Type 0 where
@@ -11,14 +12,11 @@ pub record IsWithinLimits (size : WorldSize) : Type 0 where
   pub pages : size.pages ≤ PAGES
   pub slots : size.slots ≤ SLOTS
 
--- a size without a page cache, a disk and a log
-pub record HasNoDevices (size : WorldSize) : Type 0 where
-  pub frames : size.frames ≡ 0
-  pub pages : size.pages ≡ 0
-  pub slots : size.slots ≡ 0
-
--- as many cells and locks as a size within the limits says
-pub record IsOfSize (size : WorldSize) (values : List ℕ) (holders : List (Option ℕ)) : Type 0 where
-  pub limits : IsWithinLimits size
-  pub cells : length values ≡ size.cells
-  pub locks : length holders ≡ size.locks
+-- the parts of a world are as its size says, which is within the limits
+pub record IsOfSize (world : WorldState) : Type 0 where
+  pub limits : IsWithinLimits world.size
+  pub cells : length world.cells ≡ world.size.cells
+  pub locks : length world.locks ≡ world.size.locks
+  pub frames : length world.cache.frames ≡ world.size.frames
+  pub pages : length world.cache.disk ≡ world.size.pages
+  pub slots : world.log.slots ≡ world.size.slots

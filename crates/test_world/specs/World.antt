@@ -3,18 +3,37 @@ use Rattle.std.specs.Prelude.{ℕ, ◌+◌, ◌==◌, min, Bool, true, false, Li
 use Rattle.surw_base.specs.Number.{greatest, wrapping_sum}
 use Rattle.event_class.specs.declared.event.Event.{Event}
 use Rattle.event_class.specs.declared.event.Event.TheVariants.{Acquire, Release, Load, Store, Add, SwapIf, Find, Claim, Fill, Read, Write, Oldest, Stamp, Flush, Reserve, Put, Mark, Durable, Check}
+use Rattle.page_cache.specs.Cache.{CacheState, new_cache}
+use Rattle.page_cache.specs.Events.{find, claim, fill, read, write, oldest, stamp, flush}
+use Rattle.wal_log.specs.Log.{LogState, new_log}
+use Rattle.wal_log.specs.Events.{reserve, put, mark, durable}
 use Rattle.test_world.specs.declared.size.WorldSize.{WorldSize}
 
--- the size, the number of each cell, the thread that holds each lock, and how many checks have failed
+-- the size, the number of each cell, the thread that holds each lock, the page cache with its disk, the log device,
+-- and how many checks have failed
 pub record WorldState : Type 0 where
   pub size : WorldSize
   pub cells : List ℕ
   pub locks : List (Option ℕ)
+  pub cache : CacheState
+  pub log : LogState
   pub checks : ℕ
+
+-- the world of these parts
+abbrev pub world_of : WorldSize → List ℕ → List (Option ℕ) → CacheState → LogState → ℕ → WorldState
+world_of size cells locks cache log checks =
+    record { size = size; cells = cells; locks = locks; cache = cache; log = log; checks = checks }
 
 -- a world as a test begins
 abbrev pub new_world : WorldSize → WorldState
-new_world size = record { size = size; cells = replicate size.cells 0; locks = replicate size.locks None; checks = 0 }
+new_world size = record {
+  size = size;
+  cells = replicate size.cells 0;
+  locks = replicate size.locks None;
+  cache = new_cache size.frames size.pages;
+  log = new_log size.slots;
+  checks = 0;
+}
 
 -- whether a list has no such place
 abbrev pub is_past : {A : Type 0} → List A → ℕ → Bool
@@ -66,8 +85,8 @@ abbrev pub is_enabled : WorldState → Event → Bool
 is_enabled w (Acquire l) = is_free w.locks l
 is_enabled w _ = true
 
--- the reply to an event of a thread, where there are no frames, pages and slots: the greatest number where there is no
--- such thing. A swap replies the number before, as a load does
+-- the reply to an event of a thread: the greatest number where there is no such thing. A swap replies the number
+-- before, as a load does. The page cache and the log device reply for themselves
 abbrev pub reply : WorldState → ℕ → Event → ℕ
 reply w t (Acquire l) = zero_or_greatest w.locks l
 reply w t (Release l) = release_reply w.locks t l
@@ -75,26 +94,38 @@ reply w t (Load c) = value_or_greatest w.cells c
 reply w t (Store c v) = zero_or_greatest w.cells c
 reply w t (Add c v) = value_or_greatest w.cells c
 reply w t (SwapIf c a b) = value_or_greatest w.cells c
-reply w t (Find p) = greatest
-reply w t (Claim p) = greatest
-reply w t (Fill f p) = greatest
-reply w t (Read f) = greatest
-reply w t (Write f v n) = greatest
-reply w t Oldest = greatest
-reply w t (Stamp f) = greatest
-reply w t (Flush f) = greatest
-reply w t Reserve = 0
-reply w t (Put s v) = greatest
-reply w t (Mark n) = if n == 0 then 0 else greatest
-reply w t Durable = 0
+reply w t (Find p) = (find w.cache p).reply
+reply w t (Claim p) = (claim w.cache p).reply
+reply w t (Fill f p) = (fill w.cache f p).reply
+reply w t (Read f) = (read w.cache f).reply
+reply w t (Write f v n) = (write w.cache f v n).reply
+reply w t Oldest = (oldest w.cache).reply
+reply w t (Stamp f) = (stamp w.cache f).reply
+reply w t (Flush f) = (flush w.cache f).reply
+reply w t Reserve = (reserve w.log).reply
+reply w t (Put s v) = (put w.log s v).reply
+reply w t (Mark n) = (mark w.log n).reply
+reply w t Durable = (durable w.log).reply
 reply w t (Check a b) = if a == b then 0 else 1
 
 -- the world after an event of a thread. Where there is no such lock or cell, nothing is set
 abbrev pub after : WorldState → ℕ → Event → WorldState
 after w t (Acquire l) = record w { locks = slice_set w.locks l (Some t) }
 after w t (Release l) = record w { locks = released w.locks t l }
+after w t (Load c) = w
 after w t (Store c v) = record w { cells = slice_set w.cells c v }
 after w t (Add c v) = record w { cells = slice_set w.cells c (wrapping_sum (slice_index w.cells c) v) }
 after w t (SwapIf c a b) = record w { cells = slice_set w.cells c (swapped (slice_index w.cells c) a b) }
+after w t (Find p) = record w { cache = (find w.cache p).after }
+after w t (Claim p) = record w { cache = (claim w.cache p).after }
+after w t (Fill f p) = record w { cache = (fill w.cache f p).after }
+after w t (Read f) = record w { cache = (read w.cache f).after }
+after w t (Write f v n) = record w { cache = (write w.cache f v n).after }
+after w t Oldest = record w { cache = (oldest w.cache).after }
+after w t (Stamp f) = record w { cache = (stamp w.cache f).after }
+after w t (Flush f) = record w { cache = (flush w.cache f).after }
+after w t Reserve = record w { log = (reserve w.log).after }
+after w t (Put s v) = record w { log = (put w.log s v).after }
+after w t (Mark n) = record w { log = (mark w.log n).after }
+after w t Durable = record w { log = (durable w.log).after }
 after w t (Check a b) = record w { checks = checks_after w.checks a b }
-after w t _ = w

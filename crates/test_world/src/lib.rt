@@ -1,5 +1,5 @@
-//! The shared world that threads act on: cells, locks and checks, what each event replies and changes, and
-//! monitors.
+//! The shared world that threads act on: cells, locks, a page cache with its disk, a log device and checks, what
+//! each event replies and changes, and monitors.
 #![tactic(auto)]
 
 mod cells;

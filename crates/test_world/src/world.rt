@@ -1,15 +1,18 @@
 ghost use Rattle.std.specs.Prelude.{◌≡◌, ◌<◌, IsTrue, IfOk, slice_index};
-ghost use Rattle.test_world.specs.Size.{IsWithinLimits, HasNoDevices, IsOfSize};
+ghost use Rattle.std.specs.List.{list_any};
+ghost use Rattle.test_world.specs.Size.{IsWithinLimits, IsOfSize};
 ghost use Rattle.test_world.specs.World.{new_world, holder_of, is_enabled, reply, after};
-ghost use Rattle.test_world.specs.Monitor.{CanWatch, is_failing};
+ghost use Rattle.test_world.specs.Monitor.{CanWatch, is_ahead, is_failing};
 
 use crate::cells::Cells;
 use crate::locks::Locks;
 use crate::{Monitor, WorldSize};
 use event_class::Event;
+use page_cache::PageCache;
 use std::alloc::Global;
 use std::marker::Model;
 use surw_base::{OutOfMemory, ThreadNo};
+use wal_log::WalLog;
 
 /// The state that the threads of a test share. A contract sees a record of its parts.
 #[derive(Debug, Drop)]
@@ -17,33 +20,36 @@ pub struct World {
     size: WorldSize,
     cells: Cells,
     locks: Locks,
+    cache: PageCache,
+    log: WalLog,
     checks: u64,
 }
 
 impl Model for World {
-    ghost use Rattle.test_world.specs.World.{WorldState};
+    ghost use Rattle.test_world.specs.World.{WorldState, world_of};
     ghost use Rattle.test_world.specs.Size.{IsOfSize};
 
     ghost Value = { WorldState };
 
-    ghost view = { λ w. record { size = w.size; cells = w.cells; locks = w.locks; checks = w.checks } };
+    ghost view = { λ w. world_of w.size w.cells w.locks w.cache w.log w.checks };
 
-    ghost invariant = { λ w. IsOfSize w.size w.cells w.locks };
+    ghost invariant = { λ w. IsOfSize (world_of w.size w.cells w.locks w.cache w.log w.checks) };
 }
 
 impl World {
-    /// A world of this size as a test begins: each cell is 0, each lock is free, and no check has failed. The
-    /// size is within the limits, and has no frames, pages and slots yet. An error comes only where memory is
-    /// refused.
+    /// A world of this size, which is within the limits, as a test begins: each cell is 0, each lock and each frame
+    /// is free, page p has value p and stamp 0, no slot is reserved, and no check has failed. An error comes only
+    /// where memory is refused. No other call takes memory.
     pub fn new(alloc: Global, size: &WorldSize) -> Result<World, OutOfMemory>
         requires limits { IsWithinLimits size.now }
-        requires no_devices { HasNoDevices size.now }
         ensures { IfOk result (λ world. world ≡ new_world size.now) }
     {
         Ok(World {
             size: *size,
             cells: Cells::new(alloc, size.cells)?,
             locks: Locks::new(alloc, size.locks)?,
+            cache: PageCache::new(alloc, size.frames, size.pages)?,
+            log: WalLog::new(alloc, size.slots)?,
             checks: 0,
         })
     }
@@ -72,11 +78,18 @@ impl World {
             Event::Store { c, v } => self.cells.store(c, v),
             Event::Add { c, v } => self.cells.add(c, v),
             Event::SwapIf { c, a, b } => self.cells.swap_if(c, a, b),
-            Event::Find { .. } | Event::Claim { .. } | Event::Fill { .. } => u64::MAX,
-            Event::Read { .. } | Event::Write { .. } | Event::Oldest => u64::MAX,
-            Event::Stamp { .. } | Event::Flush { .. } => u64::MAX,
-            Event::Reserve | Event::Durable | Event::Mark { n: 0 } => 0,
-            Event::Put { .. } | Event::Mark { .. } => u64::MAX,
+            Event::Find { p } => self.cache.find(p),
+            Event::Claim { p } => self.cache.claim(p),
+            Event::Fill { f, p } => self.cache.fill(f, p),
+            Event::Read { f } => self.cache.read(f),
+            Event::Write { f, v, n } => self.cache.write(f, v, n),
+            Event::Oldest => self.cache.oldest(),
+            Event::Stamp { f } => self.cache.stamp(f),
+            Event::Flush { f } => self.cache.flush(f),
+            Event::Reserve => self.log.reserve(),
+            Event::Put { s, v } => self.log.put(s, v),
+            Event::Mark { n } => self.log.mark(n),
+            Event::Durable => self.log.durable(),
             Event::Check { a, b } if a == b => 0,
             Event::Check { .. } => {
                 self.checks = self.checks.saturating_add(1);
@@ -91,7 +104,8 @@ impl World {
         ensures { result ≡ is_failing self.now monitor.now }
     {
         match *monitor {
-            Monitor::WriteAhead | Monitor::LogWhole => false,
+            Monitor::WriteAhead => self.is_ahead(),
+            Monitor::LogWhole => !self.log.whole(),
             Monitor::Expect => self.checks > 0,
             Monitor::CellEnd { cell, value } => self.cells.value(cell) != value,
         }
@@ -113,6 +127,20 @@ impl World {
         self.locks.holder(l)
     }
 
+    /// The page cache with its disk.
+    pub fn cache(&self) -> &PageCache
+        ensures { result.now ≡ self.now.cache }
+    {
+        &self.cache
+    }
+
+    /// The log device.
+    pub fn log(&self) -> &WalLog
+        ensures { result.now ≡ self.now.log }
+    {
+        &self.log
+    }
+
     /// How many checks have failed. It stays at the greatest number once it is there.
     pub fn checks(&self) -> u64
         ensures { result ≡ self.now.checks }
@@ -123,9 +151,23 @@ impl World {
     /// Its size, within the limits.
     pub fn size(&self) -> WorldSize
         ensures same { result ≡ self.now.size }
-        ensures parts { IsOfSize result self.now.cells self.now.locks }
+        ensures parts { IsOfSize self.now }
     {
         self.size
+    }
+
+    // Whether a page of the disk has a stamp above the mark of the log.
+    fn is_ahead(&self) -> bool
+        ensures { result ≡ list_any (is_ahead self.now.log.mark) self.now.cache.disk }
+    {
+        let mark = self.log.durable();
+        for page in 0..self.size.pages {
+            let (_, stamp) = self.cache.page(page);
+            if stamp > mark {
+                return true;
+            }
+        }
+        false
     }
 }
 
