@@ -1,4 +1,5 @@
-ghost use Rattle.std.specs.Prelude.{◌≡◌, ◌<◌, ◌≤◌, IfOk, length};
+ghost use Rattle.std.specs.Prelude.{◌≡◌, ◌<◌, ◌≤◌, IfOk, length, is_none};
+ghost use Rattle.std.specs.List.{count_by};
 ghost use Rattle.surw_base.specs.declared.limits.TheConstants.{SLOTS};
 ghost use Rattle.wal_log.specs.Log.{new_log, held_in, is_whole, IsSound};
 ghost use Rattle.wal_log.specs.Events.{reserve, put, mark, durable};
@@ -14,17 +15,19 @@ pub struct WalLog {
     // With room for all slots.
     reserved: Vec<Option<u64>>,
     mark: u16,
+    // How many slots from 1 to the mark are empty.
+    empty: u16,
 }
 
 impl Model for WalLog {
-    ghost use Rattle.std.specs.Prelude.{◌≤◌, vec_capacity};
-    ghost use Rattle.wal_log.specs.Log.{LogState, log_of, IsSound};
+    ghost use Rattle.std.specs.Prelude.{vec_capacity};
+    ghost use Rattle.wal_log.specs.Log.{LogState, log_of, IsKept};
 
     ghost Value = { LogState };
 
     ghost view = { λ log. log_of log.slots log.reserved.items log.mark };
 
-    ghost invariant = { λ log. (log.slots ≤ vec_capacity log.reserved) × IsSound (log_of log.slots log.reserved.items log.mark) };
+    ghost invariant = { λ log. IsKept (vec_capacity log.reserved) log.empty (log_of log.slots log.reserved.items log.mark) };
 }
 
 impl WalLog {
@@ -38,6 +41,7 @@ impl WalLog {
             slots,
             reserved: Vec::with_capacity(alloc, usize::from(slots))?,
             mark: 0,
+            empty: 0,
         })
     }
 
@@ -68,6 +72,9 @@ impl WalLog {
         match self.reserved.get_mut((s - 1) as usize) {
             Some(slot) if slot.is_none() => {
                 *slot = Some(v);
+                if s <= u64::from(self.mark) {
+                    self.empty -= 1;
+                }
                 0
             }
             _ => 1,
@@ -87,7 +94,11 @@ impl WalLog {
         if n > self.reserved.len() as u64 {
             return 1;
         }
-        self.mark = self.mark.max(n as u16);
+        let n = n as u16;
+        if n > self.mark {
+            self.empty += empty_in(&self.reserved[usize::from(self.mark)..usize::from(n)]);
+            self.mark = n;
+        }
         0
     }
 
@@ -120,10 +131,22 @@ impl WalLog {
     pub fn whole(&self) -> bool
         ensures { result ≡ is_whole self.now }
     {
-        self.reserved[..usize::from(self.mark)]
-            .iter()
-            .all(|slot| slot.is_some())
+        self.empty == 0
     }
+}
+
+// How many of these slots are empty.
+fn empty_in(slots: &[Option<u64>]) -> u16
+    requires { length slots.now ≤ SLOTS }
+    ensures { result ≡ count_by is_none slots.now }
+{
+    let mut empty = 0;
+    for slot in slots {
+        if slot.is_none() {
+            empty += 1;
+        }
+    }
+    empty
 }
 
 #[cfg(test)]
