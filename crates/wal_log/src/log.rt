@@ -140,13 +140,7 @@ fn empty_in(slots: &[Option<u64>]) -> u16
     requires { length slots.now ≤ SLOTS }
     ensures { result ≡ count_by is_none slots.now }
 {
-    let mut empty = 0;
-    for slot in slots {
-        if slot.is_none() {
-            empty += 1;
-        }
-    }
-    empty
+    slots.iter().filter(|slot| slot.is_none()).count() as u16
 }
 
 #[cfg(test)]
