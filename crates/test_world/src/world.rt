@@ -1,8 +1,10 @@
-ghost use Rattle.std.specs.Prelude.{◌≡◌, ◌<◌, IsTrue, IfOk, slice_index};
+ghost use Rattle.std.specs.Prelude.{◌≡◌, ◌<◌, IsTrue, IfOk, length, slice_index};
 ghost use Rattle.std.specs.List.{list_any};
 ghost use Rattle.test_world.specs.Size.{IsWithinLimits, IsOfSize};
 ghost use Rattle.test_world.specs.World.{new_world, holder_of, is_enabled, reply, after};
-ghost use Rattle.test_world.specs.Monitor.{CanWatch, is_ahead, is_failing};
+ghost use Rattle.test_world.specs.Monitor.{CanWatch, is_above, is_failing};
+ghost use Rattle.page_cache.specs.Events.{flush};
+ghost use Rattle.wal_log.specs.Events.{mark};
 
 use crate::cells::Cells;
 use crate::locks::Locks;
@@ -23,17 +25,19 @@ pub struct World {
     cache: PageCache,
     log: WalLog,
     checks: u64,
+    // Whether a page of the disk has a stamp above the mark of the log.
+    ahead: bool,
 }
 
 impl Model for World {
     ghost use Rattle.test_world.specs.World.{WorldState, world_of};
-    ghost use Rattle.test_world.specs.Size.{IsOfSize};
+    ghost use Rattle.test_world.specs.Monitor.{IsKept};
 
     ghost Value = { WorldState };
 
     ghost view = { λ w. world_of w.size w.cells w.locks w.cache w.log w.checks };
 
-    ghost invariant = { λ w. IsOfSize (world_of w.size w.cells w.locks w.cache w.log w.checks) };
+    ghost invariant = { λ w. IsKept w.ahead (world_of w.size w.cells w.locks w.cache w.log w.checks) };
 }
 
 impl World {
@@ -51,6 +55,7 @@ impl World {
             cache: PageCache::new(alloc, size.frames, size.pages)?,
             log: WalLog::new(alloc, size.slots)?,
             checks: 0,
+            ahead: false,
         })
     }
 
@@ -85,10 +90,10 @@ impl World {
             Event::Write { f, v, n } => self.cache.write(f, v, n),
             Event::Oldest => self.cache.oldest(),
             Event::Stamp { f } => self.cache.stamp(f),
-            Event::Flush { f } => self.cache.flush(f),
+            Event::Flush { f } => self.flush(f),
             Event::Reserve => self.log.reserve(),
             Event::Put { s, v } => self.log.put(s, v),
-            Event::Mark { n } => self.log.mark(n),
+            Event::Mark { n } => self.mark(n),
             Event::Durable => self.log.durable(),
             Event::Check { a, b } if a == b => 0,
             Event::Check { .. } => {
@@ -104,7 +109,7 @@ impl World {
         ensures { result ≡ is_failing self.now monitor.now }
     {
         match *monitor {
-            Monitor::WriteAhead => self.is_ahead(),
+            Monitor::WriteAhead => self.ahead,
             Monitor::LogWhole => !self.log.whole(),
             Monitor::Expect => self.checks > 0,
             Monitor::CellEnd { cell, value } => self.cells.value(cell) != value,
@@ -156,19 +161,49 @@ impl World {
         self.size
     }
 
-    // Whether a page of the disk has a stamp above the mark of the log.
-    fn is_ahead(&self) -> bool
-        ensures { result ≡ list_any (is_ahead self.now.log.mark) self.now.cache.disk }
+    // Flushes a frame. Only its page has a new stamp then: the frame's.
+    fn flush(&mut self, f: u64) -> u64
+        ensures reply { result ≡ (flush self.old.cache f).reply }
+        ensures after { self.new ≡ record self.old { cache = (flush self.old.cache f).after } }
     {
         let mark = self.log.durable();
-        for page in 0..self.size.pages {
-            let (_, stamp) = self.cache.page(page);
-            if stamp > mark {
-                return true;
-            }
+        // What a frame holds is a page of the disk.
+        let _links = self.cache.links();
+        let reply = self.cache.flush(f);
+        if reply == 0 {
+            let is_above = self.cache.stamp(f) > mark;
+            self.ahead = is_above || self.ahead && any_above(&self.cache, self.size.pages, mark);
         }
-        false
+        reply
     }
+
+    // Raises the mark. No page gets ahead by it.
+    fn mark(&mut self, n: u64) -> u64
+        ensures reply { result ≡ (mark self.old.log n).reply }
+        ensures after { self.new ≡ record self.old { log = (mark self.old.log n).after } }
+    {
+        let before = self.log.durable();
+        let reply = self.log.mark(n);
+        let mark = self.log.durable();
+        if self.ahead && mark > before {
+            self.ahead = any_above(&self.cache, self.size.pages, mark);
+        }
+        reply
+    }
+}
+
+// Whether a page of the disk has a stamp above the mark.
+fn any_above(cache: &PageCache, pages: u16, mark: u64) -> bool
+    requires { pages ≡ length cache.now.disk }
+    ensures { result ≡ list_any (is_above mark) cache.now.disk }
+{
+    for page in 0..pages {
+        let (_, stamp) = cache.page(page);
+        if stamp > mark {
+            return true;
+        }
+    }
+    false
 }
 
 #[cfg(test)]

@@ -1,0 +1,4 @@
+pub mod PagesAhead
+pub mod StampedPages
+pub mod MarkRises
+pub mod NewWorld
