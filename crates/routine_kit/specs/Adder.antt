@@ -5,6 +5,10 @@ use Rattle.event_class.specs.declared.event.Event.TheVariants.{Load, SwapIf}
 use Rattle.surw_base.specs.Number.{wrapping_sum}
 use Rattle.routine_kit.specs.declared.adder.Adder.{Adder}
 
+-- an adder at its beginning
+abbrev pub new_adder : ℕ → ℕ → Adder
+new_adder cell tries = record { cell = cell; tries = tries; loaded = None }
+
 -- one try: a load, then a swap of what it replied for one more
 abbrev pub adder_try : ℕ → Option ℕ → Event
 adder_try cell None = Load cell

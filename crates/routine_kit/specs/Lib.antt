@@ -1,7 +1,10 @@
 pub mod Adder
 pub mod AnyRoutine
+pub mod CacheUser
+pub mod Flusher
 pub mod Line
 pub mod LineOf
 pub mod LineText
+pub mod LogWriter
 pub mod Run
 pub mod Steps

@@ -42,6 +42,10 @@ settled lines (suc more) place registers =
     then record { lines = lines; times = suc more; place = next.place; registers = next.registers }
     else settled lines more 0 next.registers
 
+-- a routine at its beginning: its registers are 0
+abbrev pub new_steps : List Line → ℕ → Steps
+new_steps lines times = settled lines times 0 (0 ∷ 0 ∷ 0 ∷ 0 ∷ [])
+
 -- the event of a line
 abbrev pub event_at : Option Line → List ℕ → Option Event
 event_at (Some (Act shape into)) registers = Some (event_of registers shape)

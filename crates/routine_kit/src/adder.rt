@@ -1,5 +1,5 @@
-ghost use Rattle.std.specs.Prelude.{◌≡◌, ◌≤◌, None};
-ghost use Rattle.routine_kit.specs.Adder.{adder_announced, adder_after};
+ghost use Rattle.std.specs.Prelude.{◌≡◌, ◌≤◌};
+ghost use Rattle.routine_kit.specs.Adder.{new_adder, adder_announced, adder_after};
 
 use crate::Routine;
 use event_class::Event;
@@ -21,7 +21,7 @@ impl Adder {
     /// An adder of a cell that has ended after so many tries at most.
     pub fn new(cell: u64, tries: u16) -> Adder
         requires { 1 ≤ tries }
-        ensures { result ≡ record { cell = cell; tries = tries; loaded = None } }
+        ensures { result ≡ new_adder cell tries }
     {
         Adder {
             cell,

@@ -1,6 +1,6 @@
 ghost use Rattle.routine_kit.specs.AnyRoutine.{any_announced, any_after};
 
-use crate::{Adder, Routine, Steps};
+use crate::{Adder, CacheUser, Flusher, LogWriter, Routine, Steps};
 use event_class::Event;
 use std::alloc::Global;
 use surw_base::OutOfMemory;
@@ -12,6 +12,12 @@ pub enum AnyRoutine {
     Steps(Steps),
     /// One that adds one to a cell.
     Adder(Adder),
+    /// One that reads a page through the cache.
+    CacheUser(CacheUser),
+    /// One that writes frames to the disk.
+    Flusher(Flusher),
+    /// One that logs a value and writes it into a frame.
+    LogWriter(LogWriter),
 }
 
 impl Routine for AnyRoutine {
@@ -23,6 +29,9 @@ impl Routine for AnyRoutine {
         match self {
             AnyRoutine::Steps(steps) => steps.announce(),
             AnyRoutine::Adder(adder) => adder.announce(),
+            AnyRoutine::CacheUser(user) => user.announce(),
+            AnyRoutine::Flusher(flusher) => flusher.announce(),
+            AnyRoutine::LogWriter(writer) => writer.announce(),
         }
     }
 
@@ -30,6 +39,9 @@ impl Routine for AnyRoutine {
         match self {
             AnyRoutine::Steps(steps) => steps.take(reply),
             AnyRoutine::Adder(adder) => adder.take(reply),
+            AnyRoutine::CacheUser(user) => user.take(reply),
+            AnyRoutine::Flusher(flusher) => flusher.take(reply),
+            AnyRoutine::LogWriter(writer) => writer.take(reply),
         }
     }
 
@@ -37,6 +49,9 @@ impl Routine for AnyRoutine {
         Ok(match self {
             AnyRoutine::Steps(steps) => AnyRoutine::Steps(steps.copy(alloc)?),
             AnyRoutine::Adder(adder) => AnyRoutine::Adder(adder.copy(alloc)?),
+            AnyRoutine::CacheUser(user) => AnyRoutine::CacheUser(user.copy(alloc)?),
+            AnyRoutine::Flusher(flusher) => AnyRoutine::Flusher(flusher.copy(alloc)?),
+            AnyRoutine::LogWriter(writer) => AnyRoutine::LogWriter(writer.copy(alloc)?),
         })
     }
 }

@@ -3,9 +3,12 @@
 
 mod adder;
 mod any_routine;
+mod cache_user;
+mod flusher;
 mod line;
 mod line_text;
 mod lines;
+mod log_writer;
 mod operand;
 mod routine;
 mod shape;
@@ -14,9 +17,12 @@ mod token;
 
 pub use adder::Adder;
 pub use any_routine::AnyRoutine;
+pub use cache_user::CacheUser;
+pub use flusher::Flusher;
 pub use line::Line;
 pub use line_text::read_line;
 pub use lines::Lines;
+pub use log_writer::LogWriter;
 pub use operand::Operand;
 pub use routine::{Routine, copies};
 pub use shape::Shape;

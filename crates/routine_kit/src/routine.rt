@@ -39,4 +39,4 @@ pub fn copies<R: Routine>(alloc: Global, routines: &[R]) -> Result<Vec<R>, OutOf
 }
 
 #[cfg(test)]
-mod tests;
+pub(crate) mod tests;

@@ -1,6 +1,6 @@
 ghost use Rattle.std.specs.Prelude.{◌≡◌, ◌≤◌, ◌∷◌, [], ◌+◌, ℕ, List, length, drop, slice_set, IfNone, IfSome, ◌<◌, ◌^◌};
 ghost use Rattle.routine_kit.specs.declared.line.Line.{Line};
-ghost use Rattle.routine_kit.specs.Steps.{settle, settled, holds, steps_announced, steps_after};
+ghost use Rattle.routine_kit.specs.Steps.{settle, settled, holds, new_steps, steps_announced, steps_after};
 
 use crate::operand::register;
 use crate::{Line, Lines, Operand, Routine};
@@ -25,7 +25,7 @@ impl Steps {
     pub fn new(lines: Lines, times: u16) -> Steps
         requires some { 1 ≤ times }
         requires few { times ≤ TIMES }
-        ensures { result ≡ settled lines times 0 (0 ∷ 0 ∷ 0 ∷ 0 ∷ []) }
+        ensures { result ≡ new_steps lines times }
     {
         let mut registers = [0; 4];
         let (times, place) = settled(lines.as_slice(), times, 0, &mut registers);

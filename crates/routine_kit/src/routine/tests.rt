@@ -2,7 +2,20 @@ ghost use Rattle.std.specs.Prelude.{◌≡◌, ◌∷◌, [], IsSome};
 ghost use Rattle.routine_kit.specs.Run.{after_replies};
 
 use super::*;
+use std::process::Abort;
 use std::test::Fail;
+
+// Asserts that a routine announces these events, each before it is told the reply beside it, and then has ended.
+pub(crate) fn assert_steps<R: Routine>(rt: &impl Abort, mut routine: R, steps: &[(Event, u64)]) {
+    for (event, reply) in steps {
+        let announced = routine.announce();
+        assert_eq!(rt; announced, Some(*event));
+        if announced.is_some() {
+            routine.take(*reply);
+        }
+    }
+    assert_eq!(rt; routine.announce(), None);
+}
 
 /// Stores the numbers from `next` to below `end` in cell 0, whatever is replied.
 #[derive(Clone, Copy, Debug, PartialEq, Eq)]
