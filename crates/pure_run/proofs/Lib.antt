@@ -1,4 +1,5 @@
 pub mod Counts
+pub mod CountsMade
 pub mod Decision
 pub mod Finish
 pub mod Grant
@@ -6,7 +7,10 @@ pub mod InlineRun
 pub mod InlineStep
 pub mod MonitorsEqual
 pub mod NewCore
+pub mod OneProfile
 pub mod Places
+pub mod ProfilePlan
+pub mod ProfileVerdicts
 pub mod Routines
 pub mod Sizes
 pub mod Sources

@@ -5,4 +5,5 @@ pub mod Inline
 pub mod Invariant
 pub mod Monitors
 pub mod Opening
+pub mod Profile
 pub mod Run
