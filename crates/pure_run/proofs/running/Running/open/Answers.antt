@@ -23,8 +23,10 @@ core g c = new_core c.args.opening.now
 valid : (g : Over) (c : Start g) → IsValid (setup_by g.S.Draws g.O.Draws (core g c))
 valid g c = c.requires.valid (source_of g.S.Draws c.args.opening.now.selected) (source_of g.O.Draws c.args.opening.now.other)
 
-pub new-requires-clause-limits : goal.new-requires-clause-limits
-new-requires-clause-limits g c = subst (λ size. IsWithinLimits size) (sym c.size.ensures) (valid g (goal.at.new-requires-clause-limits g c).Start).limits
+pub new-requires : goal.new-requires
+new-requires g c = record {
+  limits = subst (λ size. IsWithinLimits size) (sym c.size.ensures) (valid g (goal.at.new-requires g c).Start).limits;
+}
 
 pub places_at_start-requires : goal.places_at_start-requires
 places_at_start-requires g c =
