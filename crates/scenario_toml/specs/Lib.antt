@@ -1,4 +1,6 @@
+pub mod Chosen
 pub mod Counts
+pub mod Draws
 pub mod Faults
 pub mod Keys
 pub mod Monitors

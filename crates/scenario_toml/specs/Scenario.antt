@@ -5,7 +5,7 @@ use Rattle.toml.specs.Data.{Members}
 use Rattle.toml.specs.Parse.{parse_document}
 use Rattle.scenario_toml.specs.declared.fault.ScenarioFault.{ScenarioFault}
 use Rattle.scenario_toml.specs.declared.fault.ScenarioFault.TheVariants.{NotToml}
-use Rattle.scenario_toml.specs.Counts.{fitting}
+use Rattle.scenario_toml.specs.Counts.{counts_rule}
 use Rattle.scenario_toml.specs.Faults.{and_then}
 use Rattle.scenario_toml.specs.Monitors.{monitors_from}
 use Rattle.scenario_toml.specs.State.{ScenarioState}
@@ -28,9 +28,9 @@ scenario_in table =
     and_then (lists table) (λ lists.
     and_then (parts table) (λ parts.
     and_then (world parts.world) (λ size.
-    and_then (tapes parts.tapes) (λ entries.
+    and_then (tapes parts.tapes) (λ tapes.
     and_then (threads parts.threads) (λ routines.
-    and_then (fitting lists.counts (length routines)) (λ _.
+    and_then (counts_rule lists.counts (length routines)) (λ counts.
     and_then (monitors_from size.cells 0 lists.watches) (λ monitors.
     Ok (record {
       strategy = settings.strategy;
@@ -38,11 +38,10 @@ scenario_in table =
       depth = settings.depth;
       max_steps = settings.max_steps;
       select = lists.select;
-      counts = lists.counts;
+      counts = counts;
       monitors = monitors;
       size = size;
-      selected = entries.selected;
-      other = entries.other;
+      tapes = tapes;
       routines = routines;
     }))))))))))
 

@@ -14,7 +14,7 @@ use Rattle.scenario_toml.specs.Counts.{counts}
 use Rattle.scenario_toml.specs.Faults.{and_then}
 use Rattle.scenario_toml.specs.Keys.{max_steps, seed, depth}
 use Rattle.scenario_toml.specs.Monitors.{watch_item}
-use Rattle.scenario_toml.specs.Values.{array, list_or, meant, number_in, of_kind, required, text_item}
+use Rattle.scenario_toml.specs.Values.{array, list_or, meant, number_in, of_kind, text_item}
 use Rattle.scenario_toml.specs.Texts.{strategy_of}
 
 -- the keys of the top table
@@ -47,7 +47,7 @@ settings table =
 -- its lists
 pub record Lists : Type 0 where
   pub select : List Pickable
-  pub counts : List ℕ
+  pub counts : Option (List ℕ)
   pub watches : List Watch
 
 -- an item of `select`
@@ -73,26 +73,22 @@ lists table =
 -- its tables, by their kind alone, and the array of threads with its length
 pub record Parts : Type 0 where
   pub world : Option Members
-  pub tapes : Members
+  pub tapes : Option Members
   pub threads : Option Items
 
 -- a table that may be absent
-abbrev pub table_in : List ℕ → Option Data → Result (Option Members) ScenarioFault
-table_in key None = Ok None
-table_in key (Some d) = and_then (of_kind key (as_table d)) (λ table. Ok (Some table))
+abbrev pub table_or_none : List ℕ → Option Data → Result (Option Members) ScenarioFault
+table_or_none key None = Ok None
+table_or_none key (Some d) = and_then (of_kind key (as_table d)) (λ table. Ok (Some table))
+
+-- the table of a key
+abbrev pub table_in : List ℕ → Members → Result (Option Members) ScenarioFault
+table_in key table = table_or_none key (get_member key table)
 
 -- an array that may be absent
 abbrev pub array_in : List ℕ → ℕ → Option Data → Result (Option Items) ScenarioFault
 array_in key most None = Ok None
 array_in key most (Some d) = and_then (array key most d) (λ ds. Ok (Some ds))
-
--- the table `world`
-abbrev pub world_in_top : Members → Result (Option Members) ScenarioFault
-world_in_top table = table_in (codes "world") (get_member (codes "world") table)
-
--- the table `tapes`, which has to be there
-abbrev pub tapes_in : Members → Result Members ScenarioFault
-tapes_in table = and_then (required (codes "tapes") (get_member (codes "tapes") table)) (λ d. of_kind (codes "tapes") (as_table d))
 
 -- the array `thread`
 abbrev pub threads_in : Members → Result (Option Items) ScenarioFault
@@ -101,7 +97,7 @@ threads_in table = array_in (codes "thread") THREADS (get_member (codes "thread"
 -- in their order
 unfoldable pub parts : Members → Result Parts ScenarioFault
 parts table =
-    and_then (world_in_top table) (λ world.
-    and_then (tapes_in table) (λ tapes.
+    and_then (table_in (codes "world") table) (λ world.
+    and_then (table_in (codes "tapes") table) (λ tapes.
     and_then (threads_in table) (λ threads.
     Ok (record { world = world; tapes = tapes; threads = threads }))))

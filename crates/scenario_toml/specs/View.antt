@@ -12,7 +12,6 @@ state_of s = record {
   counts = s.counts;
   monitors = s.monitors.items;
   size = s.size;
-  selected = s.selected.items;
-  other = s.other.items;
+  tapes = s.tapes;
   routines = s.routines.items;
 }

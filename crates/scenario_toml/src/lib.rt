@@ -2,6 +2,9 @@
 #![tactic(auto)]
 
 mod choice;
+mod counts_rule;
+mod draws;
+mod entries;
 mod fault;
 mod key_name;
 mod keys;
@@ -14,6 +17,7 @@ mod strategy;
 mod watch;
 
 pub use choice::Choice;
+pub use counts_rule::CountsRule;
 pub use fault::ScenarioFault;
 pub use key_name::KeyName;
 pub use name_text::NameText;

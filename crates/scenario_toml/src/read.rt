@@ -13,7 +13,7 @@ mod top;
 mod values;
 mod world;
 
-use crate::read::counts::fitting;
+use crate::read::counts::rule_of_counts;
 use crate::read::monitors::monitors_of;
 use crate::read::tapes::read_tapes;
 use crate::read::threads::read_threads;
@@ -66,9 +66,9 @@ fn read_table(alloc: Global, table: &Table) -> Result<Scenario, ScenarioFault>
     let lists = read_lists(alloc, table)?;
     let parts = read_parts(alloc, table)?;
     let size = read_world(alloc, parts.world)?;
-    let entries = read_tapes(alloc, parts.tapes)?;
+    let tapes = read_tapes(alloc, parts.tapes)?;
     let routines = read_threads(alloc, parts.threads)?;
-    let counts = fitting(alloc, lists.counts.as_slice(), routines.len())?;
+    let counts = rule_of_counts(alloc, lists.counts, routines.len())?;
     let monitors = monitors_of(alloc, lists.watches.as_slice(), size.cells)?;
     Ok(Scenario {
         strategy: settings.strategy,
@@ -79,8 +79,7 @@ fn read_table(alloc: Global, table: &Table) -> Result<Scenario, ScenarioFault>
         counts,
         monitors,
         size,
-        selected: entries.selected,
-        other: entries.other,
+        tapes,
         routines,
     })
 }

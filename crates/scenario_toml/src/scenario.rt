@@ -1,9 +1,10 @@
 ghost use Rattle.std.specs.Prelude.{◌≡◌, ◌≤◌, length};
 ghost use Rattle.surw_base.specs.declared.limits.TheConstants.{DEPTH, THREADS};
-ghost use Rattle.scenario_toml.specs.Plan.{chosen_or, depth_by, strategy_by, HasDepth};
+ghost use Rattle.scenario_toml.specs.Chosen.{depth_by, seed_by, strategy_by, HasDepth};
+ghost use Rattle.scenario_toml.specs.State.{HasCounts};
 
-use crate::{Choice, Strategy};
-use draw_split::Weights;
+use crate::entries::Entries;
+use crate::{Choice, CountsRule, Strategy};
 use event_class::Selection;
 use routine_kit::AnyRoutine;
 use std::marker::Model;
@@ -17,12 +18,10 @@ pub struct Scenario {
     pub(crate) depth: u8,
     pub(crate) max_steps: u32,
     pub(crate) select: Selection,
-    pub(crate) counts: Weights,
+    pub(crate) counts: CountsRule,
     pub(crate) monitors: Vec<Monitor>,
     pub(crate) size: WorldSize,
-    // The entries of the two tapes.
-    pub(crate) selected: Vec<u64>,
-    pub(crate) other: Vec<u64>,
+    pub(crate) tapes: Option<Entries>,
     pub(crate) routines: Vec<AnyRoutine>,
 }
 
@@ -50,7 +49,7 @@ impl Scenario {
 
     /// The seed: the choice's where it has one, else the file's.
     pub fn seed(&self, choice: &Choice) -> u64
-        ensures { result ≡ chosen_or self.now.seed choice.now.seed }
+        ensures { result ≡ seed_by self.now choice.now }
     {
         match choice.seed {
             Some(seed) => seed,
@@ -69,12 +68,12 @@ impl Scenario {
         }
     }
 
-    /// The counts of the file, one for each thread.
-    pub fn counts(&self) -> &Weights
-        ensures same { result.now ≡ self.now.counts }
-        ensures each { length self.now.counts ≡ length self.now.routines }
+    /// Where the counts come from. Those that the file gives are one for each thread. It takes no memory.
+    pub fn counts(&self) -> CountsRule
+        ensures same { result ≡ self.now.counts }
+        ensures each { HasCounts result (length self.now.routines) }
     {
-        &self.counts
+        self.counts.copy()
     }
 
     /// How many threads there are, at most `THREADS`.

@@ -1,12 +1,14 @@
 ghost use Rattle.std.specs.Prelude.{◌≤◌};
+ghost use Rattle.scenario_toml.specs.Chosen.{HasDepth};
 
 use super::*;
-use crate::read_scenario;
+use crate::{CountsRule, read_scenario};
 use event_class::{Class, Event};
 use routine_kit::Routine;
-use seed_draws::{DrawFault, Draws};
+use seed_draws::{DrawFault, Draws, Seeded};
 use std::alloc::AllocError;
 use std::test::Fail;
+use surw_base::THREADS;
 use test_world::Monitor;
 
 const FILE: &[u8] = b"max_steps = 20
@@ -38,10 +40,27 @@ fn taken(alloc: Global, file: &[u8]) -> Result<Scenario, AllocError> {
     read_scenario(alloc, file).map_err(|_| AllocError)
 }
 
+// The plan of a scenario under a choice with the counts that it gives, and with zeros where it gives none.
+fn planned(
+    alloc: Global,
+    scenario: &Scenario,
+    choice: &Choice,
+) -> Result<Plan<AnyRoutine, AnyDraws, AnyDraws>, OutOfMemory>
+    requires { HasDepth choice.now }
+{
+    match scenario.counts() {
+        CountsRule::Given(counts) => scenario.plan(alloc, choice, &counts),
+        CountsRule::Profile => {
+            let none = Weights::new(&[0; THREADS][..scenario.threads()]);
+            scenario.plan(alloc, choice, &none)
+        }
+    }
+}
+
 #[test]
 fn a_plan_of_all_keys(rt: HostRuntime) -> Result<(), Fail> {
     let scenario = taken(rt.alloc(), FILE)?;
-    let mut plan = scenario.plan(rt.alloc(), &NOTHING, scenario.counts())?;
+    let mut plan = planned(rt.alloc(), &scenario, &NOTHING)?;
     assert_eq!(rt; scenario.threads(), 2);
     assert_eq!(rt;
         (plan.world.cells, plan.world.locks, plan.max_steps),
@@ -85,19 +104,26 @@ fn a_choice_goes_before_the_file(rt: HostRuntime) -> Result<(), Fail> {
         strategy: Some(Strategy::Urw),
         ..NOTHING
     };
-    let plan = scenario.plan(rt.alloc(), &urw, scenario.counts())?;
+    let plan = planned(rt.alloc(), &scenario, &urw)?;
     assert_eq!(rt; plan.selection.as_slice(), [Pickable::Every].as_slice());
     assert_eq!(rt; plan.walk.counts(), [2, 3].as_slice());
     Ok(())
 }
 
+// Whether the draws of a plan are those of a seed: the selected ones from this stream, the others from the second.
+fn is_seeded(plan: &Plan<AnyRoutine, AnyDraws, AnyDraws>, seed: u64, stream: u64) -> bool {
+    let selected = AnyDraws::Seed(Seeded::new(seed, stream));
+    let other = AnyDraws::Seed(Seeded::new(seed, 2));
+    plan.selected.same(&selected) && plan.other.same(&other)
+}
+
 #[test]
 fn what_stands_for_the_keys_that_are_absent(rt: HostRuntime) -> Result<(), Fail> {
-    let file = b"counts = []\n[tapes]\n".as_slice();
-    let scenario = taken(rt.alloc(), file)?;
+    let scenario = taken(rt.alloc(), b"")?;
+    assert!(rt; matches!(scenario.counts(), CountsRule::Profile));
     assert_eq!(rt; scenario.strategy(&NOTHING), Strategy::Surw);
     assert_eq!(rt; (scenario.seed(&NOTHING), scenario.depth(&NOTHING)), (0, 3));
-    let mut plan = scenario.plan(rt.alloc(), &NOTHING, scenario.counts())?;
+    let mut plan = planned(rt.alloc(), &scenario, &NOTHING)?;
     assert_eq!(rt;
         (plan.world.cells, plan.world.locks, plan.max_steps),
         (0, 0, 65_536)
@@ -108,8 +134,29 @@ fn what_stands_for_the_keys_that_are_absent(rt: HostRuntime) -> Result<(), Fail>
     );
     assert_eq!(rt; plan.selection.as_slice(), [Pickable::Every].as_slice());
     assert_eq!(rt; (plan.routines.len(), plan.monitors.len()), (0, 0));
+    assert!(rt; is_seeded(&plan, 0, 1));
+    Ok(())
+}
+
+#[test]
+fn two_empty_tapes(rt: HostRuntime) -> Result<(), Fail> {
+    let scenario = taken(rt.alloc(), b"[tapes]\n")?;
+    let mut plan = planned(rt.alloc(), &scenario, &NOTHING)?;
     assert_eq!(rt; plan.selected.below(1), Err(DrawFault::Short { place: 0 }));
     assert_eq!(rt; plan.other.below(9), Ok(0));
+    Ok(())
+}
+
+#[test]
+fn a_chosen_seed_goes_before_the_tapes(rt: HostRuntime) -> Result<(), Fail> {
+    let scenario = taken(rt.alloc(), FILE)?;
+    let choice = Choice {
+        strategy: Some(Strategy::Pct),
+        seed: Some(8),
+        ..NOTHING
+    };
+    let plan = planned(rt.alloc(), &scenario, &choice)?;
+    assert!(rt; is_seeded(&plan, 8, 3));
     Ok(())
 }
 
@@ -123,15 +170,15 @@ fn is_of_depth(alloc: Global, walk: &Walk, depth: u8) -> Result<bool, OutOfMemor
 
 #[test]
 fn pct_with_the_depth_of_the_file_and_of_the_choice(rt: HostRuntime) -> Result<(), Fail> {
-    let file = b"strategy = 'pct'\ndepth = 5\ncounts = []\n[tapes]\n".as_slice();
+    let file = b"strategy = 'pct'\ndepth = 5\n".as_slice();
     let scenario = taken(rt.alloc(), file)?;
-    let plan = scenario.plan(rt.alloc(), &NOTHING, scenario.counts())?;
+    let plan = planned(rt.alloc(), &scenario, &NOTHING)?;
     assert!(rt; is_of_depth(rt.alloc(), &plan.walk, 5)?);
     let choice = Choice {
         depth: Some(16),
         ..NOTHING
     };
-    let plan = scenario.plan(rt.alloc(), &choice, scenario.counts())?;
+    let plan = planned(rt.alloc(), &scenario, &choice)?;
     assert!(rt; is_of_depth(rt.alloc(), &plan.walk, 16)?);
     Ok(())
 }
@@ -149,9 +196,7 @@ fn events(routine: &mut AnyRoutine) -> u64 {
 
 #[test]
 fn threads_without_times_and_tries(rt: HostRuntime) -> Result<(), Fail> {
-    let file = b"counts = [1, 2]
-tapes = {}
-[[thread]]
+    let file = b"[[thread]]
 kind = 'steps'
 lines = ['oldest']
 [[thread]]
@@ -160,7 +205,7 @@ cell = 0
 "
         .as_slice();
     let scenario = taken(rt.alloc(), file)?;
-    let mut plan = scenario.plan(rt.alloc(), &NOTHING, scenario.counts())?;
+    let mut plan = planned(rt.alloc(), &scenario, &NOTHING)?;
     let mut each = Vec::new(rt.alloc());
     for routine in &mut plan.routines {
         each.push(events(routine))?;

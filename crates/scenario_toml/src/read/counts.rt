@@ -1,55 +1,73 @@
-ghost use Rattle.std.specs.Prelude.{◌≡◌, ◌<◌, ◌≤◌, ◌^◌, IfOk, IfErr, Ok, codes, length, sum};
+ghost use Rattle.std.specs.Prelude.{◌≡◌, ◌<◌, ◌≤◌, ◌^◌, IfOk, IfErr, Ok, codes, length, option_map, sum};
 ghost use Rattle.surw_base.specs.declared.limits.TheConstants.{STEPS, THREADS};
-ghost use Rattle.toml.specs.Data.{as_str, get_member};
+ghost use Rattle.toml.specs.Data.{as_array, as_str, get_member};
 ghost use Rattle.toml.specs.View.{view, table_view};
-ghost use Rattle.scenario_toml.specs.Counts.{counts, fitting, no_counts};
-ghost use Rattle.scenario_toml.specs.Faults.{IsFault, IsFaultOf};
+ghost use Rattle.scenario_toml.specs.declared.counts_rule.CountsRule.TheVariants.{Given};
+ghost use Rattle.scenario_toml.specs.Counts.{counts, counts_rule, for_each, items_or_text};
+ghost use Rattle.scenario_toml.specs.Faults.{IsFaultOf};
+ghost use Rattle.scenario_toml.specs.State.{HasCounts};
 
 use crate::read::items::{Item, read_items};
 use crate::read::values::{not_named, number_item, value_at};
-use crate::{KeyName, ScenarioFault};
+use crate::{CountsRule, KeyName, ScenarioFault};
 use draw_split::Weights;
 use std::alloc::Global;
 use surw_base::STEPS;
 use toml::{Table, Value};
 
-/// The counts of the key `counts`, as many as there are.
-pub(crate) fn read_counts(alloc: Global, table: &Table) -> Result<Vec<u32>, ScenarioFault>
-    ensures ok { IfOk result (λ found. counts (get_member (codes "counts") (table_view table.now)) ≡ Ok found.items) }
+/// The counts of the key `counts`, as many as there are. None are given where it is absent or the word `profile`.
+pub(crate) fn read_counts(alloc: Global, table: &Table) -> Result<Option<Vec<u32>>, ScenarioFault>
+    ensures ok { IfOk result (λ found.
+        counts (get_member (codes "counts") (table_view table.now)) ≡ Ok (option_map (λ c. c.items) found)) }
     ensures fault { IfErr result (IsFaultOf (counts (get_member (codes "counts") (table_view table.now)))) }
 {
-    let key = KeyName::new(alloc, b"", "counts")?;
-    let Some(value) = value_at(table, "counts") else {
-        return Err(ScenarioFault::Missing { key });
-    };
-    match value.as_array() {
-        Some(items) => read_items(alloc, &key, items.as_slice()),
-        None => Err(no_counts(alloc, key, value)),
+    match value_at(table, "counts") {
+        None => Ok(None),
+        Some(value) => counts_of(alloc, value),
     }
 }
 
-// Why a value that isn't an array is no counts.
-fn no_counts(alloc: Global, key: KeyName, value: &Value) -> ScenarioFault
-    ensures { IsFault (no_counts key (as_str (view value.now))) result }
+// The counts of a value, which is an array or a text.
+fn counts_of(alloc: Global, value: &Value) -> Result<Option<Vec<u32>>, ScenarioFault>
+    ensures ok { IfOk result (λ found.
+        items_or_text (as_array (view value.now)) (as_str (view value.now)) ≡ Ok (option_map (λ c. c.items) found)) }
+    ensures fault { IfErr result (IsFaultOf (items_or_text (as_array (view value.now)) (as_str (view value.now)))) }
 {
+    let key = KeyName::new(alloc, b"", "counts")?;
+    if let Some(items) = value.as_array() {
+        return Ok(Some(read_items(alloc, &key, items.as_slice())?));
+    }
     match value.as_str() {
-        None => ScenarioFault::WrongKind { key },
-        Some(text) => not_named(alloc, key, text.as_bytes()),
+        None => Err(ScenarioFault::WrongKind { key }),
+        Some("profile") => Ok(None),
+        Some(text) => Err(not_named(alloc, key, text.as_bytes())),
     }
 }
 
-/// The counts, of which there has to be one for each thread, with a sum of at most `STEPS`.
-#[tactic(auto, unfolding(crate::specs::Counts::fitting))]
-pub(crate) fn fitting(
+/// Where the counts of so many threads come from: those that are given, of which there has to be one for each thread,
+/// with a sum of at most `STEPS`, and else those of a profile.
+pub(crate) fn rule_of_counts(
     alloc: Global,
-    counts: &[u32],
+    counts: Option<Vec<u32>>,
     threads: usize,
-) -> Result<Weights, ScenarioFault>
+) -> Result<CountsRule, ScenarioFault>
     requires { threads ≤ THREADS }
-    ensures ok { IfOk result (λ found. (fitting counts.now threads ≡ Ok tt) × (found ≡ counts.now)) }
-    ensures fault { IfErr result (IsFaultOf (fitting counts.now threads)) }
-    ensures each { IfOk result (λ found. length counts.now ≡ threads) }
-    ensures few { IfOk result (λ found. sum counts.now ≤ STEPS) }
+    ensures ok { IfOk result (λ rule. counts_rule (option_map (λ c. c.items) counts) threads ≡ Ok rule) }
+    ensures fault { IfErr result (IsFaultOf (counts_rule (option_map (λ c. c.items) counts) threads)) }
+    ensures counted { IfOk result (λ rule. HasCounts rule threads) }
+{
+    match counts {
+        None => Ok(CountsRule::Profile),
+        Some(counts) => Ok(CountsRule::Given(for_each(alloc, counts.as_slice(), threads)?)),
+    }
+}
+
+// Counts, of which there has to be one for each thread, with a sum of at most `STEPS`.
+fn for_each(alloc: Global, counts: &[u32], threads: usize) -> Result<Weights, ScenarioFault>
+    requires { threads ≤ THREADS }
+    ensures ok { IfOk result (λ found. for_each counts.now threads ≡ Ok (Given found)) }
+    ensures fault { IfErr result (IsFaultOf (for_each counts.now threads)) }
+    ensures counted { IfOk result (λ found. HasCounts (Given found) threads) }
 {
     if counts.len() != threads {
         return Err(ScenarioFault::Range {

@@ -1,9 +1,10 @@
-ghost use Rattle.std.specs.Prelude.{◌≡◌, ◌≤◌, IfOk, IfErr, Ok, length};
+ghost use Rattle.std.specs.Prelude.{◌≡◌, ◌≤◌, IfOk, IfErr, Ok, length, option_map};
 ghost use Rattle.surw_base.specs.declared.limits.TheConstants.{STEPS};
 ghost use Rattle.toml.specs.View.{table_view};
 ghost use Rattle.scenario_toml.specs.Faults.{IsFaultOf};
-ghost use Rattle.scenario_toml.specs.Tapes.{tapes, entries_in};
+ghost use Rattle.scenario_toml.specs.Tapes.{entries_in, tapes, tapes_in};
 
+use crate::entries::Entries;
 use crate::read::items::Item;
 use crate::read::values::{list_of, number_item, only, value_at};
 use crate::{KeyName, ScenarioFault};
@@ -11,22 +12,25 @@ use std::alloc::Global;
 use surw_base::STEPS;
 use toml::{Table, Value};
 
-/// The entries of the two tapes.
-#[derive(Debug, Drop)]
-pub(crate) struct Entries {
-    /// Those of the selected draws.
-    pub(crate) selected: Vec<u64>,
-    /// Those of the other draws.
-    pub(crate) other: Vec<u64>,
+/// The entries that the table `tapes` lists, and no tapes where there is no table.
+pub(crate) fn read_tapes(
+    alloc: Global,
+    table: Option<&Table>,
+) -> Result<Option<Entries>, ScenarioFault>
+    ensures ok { IfOk result (λ found. tapes (option_map (λ t. table_view t.now) table.entry) ≡ Ok found) }
+    ensures fault { IfErr result (IsFaultOf (tapes (option_map (λ t. table_view t.now) table.entry))) }
+{
+    match table {
+        None => Ok(None),
+        Some(table) => Ok(Some(read_entries(alloc, table)?)),
+    }
 }
 
-/// The entries that the table `tapes` lists.
-#[tactic(auto, unfolding(crate::specs::Tapes::tapes))]
-pub(crate) fn read_tapes(alloc: Global, table: &Table) -> Result<Entries, ScenarioFault>
-    ensures ok { IfOk result (λ found.
-        tapes (table_view table.now) ≡ Ok (record { selected = found.selected.items; other = found.other.items })) }
-    ensures fault { IfErr result (IsFaultOf (tapes (table_view table.now))) }
-    ensures few { IfOk result (λ found. (length found.selected.items ≤ STEPS) × (length found.other.items ≤ STEPS)) }
+// The entries that the table `tapes` lists.
+#[tactic(auto, unfolding(crate::specs::Tapes::tapes_in))]
+fn read_entries(alloc: Global, table: &Table) -> Result<Entries, ScenarioFault>
+    ensures ok { IfOk result (λ found. tapes_in (table_view table.now) ≡ Ok found) }
+    ensures fault { IfErr result (IsFaultOf (tapes_in (table_view table.now))) }
 {
     only(alloc, b"tapes.", &["selected", "other"], table)?;
     let selected = entries_at(alloc, table, "selected")?;

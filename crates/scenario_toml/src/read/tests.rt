@@ -3,9 +3,6 @@ use std::alloc::{AllocError, Global};
 use std::process::Abort;
 use std::test::Fail;
 
-// The top keys that have to be there, as a file without threads has them.
-const HEAD: &str = "counts = []\ntapes = {}\n";
-
 // A thread without a fault, and the head of a second one.
 const FIRST: &str = "[[thread]]\nkind = 'adder'\ncell = 0\n[[thread]]\n";
 
@@ -103,22 +100,22 @@ fn assert_lengths(
     Ok(())
 }
 
-const STEPS_AND_STRATEGY: &str = " => missing counts
+const STEPS_AND_STRATEGY: &str = " => taken
 cels = 1 => unknown cels
 max_steps = 0; zz = 1; mm = 1; nn = 1 => unknown mm
 max_steps = '1' => wrong_kind max_steps
 max_steps = -1 => range max_steps -1 1 65536
 max_steps = 0 => range max_steps 0 1 65536
-max_steps = 1 => missing counts
-max_steps = 65536 => missing counts
+max_steps = 1 => taken
+max_steps = 65536 => taken
 max_steps = 65537 => range max_steps 65537 1 65536
 strategy = 1 => wrong_kind strategy
 strategy = 'sruw'; seed = '7' => name strategy sruw
 strategy = 'URW' => name strategy URW
-strategy = 'urw' => missing counts
-strategy = 'surw' => missing counts
-strategy = 'pct' => missing counts
-strategy = 'plain' => missing counts
+strategy = 'urw' => taken
+strategy = 'surw' => taken
+strategy = 'pct' => taken
+strategy = 'plain' => taken
 ";
 
 #[test]
@@ -128,12 +125,12 @@ fn faults_of_the_steps_and_the_strategy(rt: HostRuntime) -> Result<(), Fail> {
 
 const SEED_AND_DEPTH: &str = "seed = '7' => wrong_kind seed
 seed = -1 => range seed -1 0 9223372036854775807
-seed = 0 => missing counts
-seed = 9223372036854775807 => missing counts
+seed = 0 => taken
+seed = 9223372036854775807 => taken
 depth = 1.0 => wrong_kind depth
 depth = 0 => range depth 0 1 16
-depth = 1 => missing counts
-depth = 16 => missing counts
+depth = 1 => taken
+depth = 16 => taken
 depth = 17 => range depth 17 1 16
 ";
 
@@ -145,10 +142,10 @@ fn faults_of_the_seed_and_the_depth(rt: HostRuntime) -> Result<(), Fail> {
 const SELECTION: &str = "select = 'all' => wrong_kind select
 select = [1] => wrong_kind select.0
 select = ['all', 'lok'] => name select.1 lok
-select = [] => missing counts
-select = ['all', 'lock', 'cell', 'cache', 'disk', 'log', 'check'] => missing counts
-select = ['lock 0', 'lock 18446744073709551615'] => missing counts
-select = ['cell 0', 'cell 18446744073709551615'] => missing counts
+select = [] => taken
+select = ['all', 'lock', 'cell', 'cache', 'disk', 'log', 'check'] => taken
+select = ['lock 0', 'lock 18446744073709551615'] => taken
+select = ['cell 0', 'cell 18446744073709551615'] => taken
 select = ['lock 18446744073709551616'] => name select.0 lock 18446744073709551616
 select = ['cell 18446744073709551616'] => name select.0 cell 18446744073709551616
 select = ['lock 01'] => name select.0 lock 01
@@ -162,10 +159,13 @@ fn faults_of_the_selection(rt: HostRuntime) -> Result<(), Fail> {
 }
 
 const COUNTS: &str = "counts = 1 => wrong_kind counts
-counts = 'profile' => name counts profile
+counts = 'profile' => taken
+counts = 'profiles' => name counts profiles
+counts = 'Profile' => name counts Profile
+counts = '' => name counts\x20
 counts = [1, true] => wrong_kind counts.1
 counts = [-1] => range counts.0 -1 0 65536
-counts = [0, 65536] => missing tapes
+counts = [0, 65536] => range counts 2 0 0
 counts = [65537] => range counts.0 65537 0 65536
 ";
 
@@ -177,9 +177,9 @@ fn faults_of_the_counts(rt: HostRuntime) -> Result<(), Fail> {
 const MONITORS: &str = "monitors = 'expect' => wrong_kind monitors
 monitors = [1] => wrong_kind monitors.0
 monitors = ['expect', 'expct'] => name monitors.1 expct
-monitors = [] => missing tapes
-monitors = ['write_ahead', 'log_whole', 'expect'] => missing tapes
-monitors = ['cell_end 0 0', 'cell_end 18446744073709551615 18446744073709551615'] => missing tapes
+monitors = [] => taken
+monitors = ['write_ahead', 'log_whole', 'expect'] => taken
+world = 1; monitors = ['cell_end 0 0', 'cell_end 18446744073709551615 18446744073709551615'] => wrong_kind world
 monitors = ['cell_end 1'] => name monitors.0 cell_end 1
 monitors = ['cell_end 18446744073709551616 0'] => name monitors.0 cell_end 18446744073709551616 0
 monitors = ['cell_end 0 18446744073709551616'] => name monitors.0 cell_end 0 18446744073709551616
@@ -190,11 +190,11 @@ monitors = ['expect '] => name monitors.0 expect\x20
 
 #[test]
 fn faults_of_the_monitors(rt: HostRuntime) -> Result<(), Fail> {
-    assert_answers(&rt, rt.alloc(), "counts = []\n", MONITORS)
+    assert_answers(&rt, rt.alloc(), "", MONITORS)
 }
 
 const TABLES_AND_TAPES: &str = "world = 1 => wrong_kind world
-world = {} => missing tapes
+world = {} => taken
 tapes = [] => wrong_kind tapes
 tapes = {} => taken
 tapes = {}; thread = 1 => wrong_kind thread
@@ -216,7 +216,7 @@ tapes.other = 1; tapes.selected = 1 => wrong_kind tapes.selected
 
 #[test]
 fn faults_of_the_tables_and_the_tapes(rt: HostRuntime) -> Result<(), Fail> {
-    assert_answers(&rt, rt.alloc(), "counts = []\n", TABLES_AND_TAPES)
+    assert_answers(&rt, rt.alloc(), "", TABLES_AND_TAPES)
 }
 
 const WORLD: &str = "cels = 1; cell = 1 => unknown world.cell
@@ -245,8 +245,7 @@ frames = 0; pages = 0; slots = 0 => taken
 
 #[test]
 fn faults_of_the_world(rt: HostRuntime) -> Result<(), Fail> {
-    let prefix = format!(in rt.alloc(); "{HEAD}[world]\n")?;
-    assert_answers(&rt, rt.alloc(), prefix.as_str(), WORLD)
+    assert_answers(&rt, rt.alloc(), "[world]\n", WORLD)
 }
 
 const KIND: &str = "cell = 0 => missing thread.1.kind
@@ -260,63 +259,62 @@ kind = 'adder'; lines = [] => unknown thread.1.lines
 
 #[test]
 fn faults_of_the_kind_of_a_thread(rt: HostRuntime) -> Result<(), Fail> {
-    assert_answers(&rt, rt.alloc(), HEAD, "thread = [1] => wrong_kind thread.0")?;
-    let prefix = format!(in rt.alloc(); "{HEAD}{FIRST}")?;
-    assert_answers(&rt, rt.alloc(), prefix.as_str(), KIND)
+    assert_answers(&rt, rt.alloc(), "", "thread = [1] => wrong_kind thread.0")?;
+    assert_answers(&rt, rt.alloc(), FIRST, KIND)
 }
 
 const LINES: &str = "times = 0 => missing thread.1.lines
 lines = 1 => wrong_kind thread.1.lines
 lines = ['load 0', 1] => wrong_kind thread.1.lines.1
 lines = ['load  0'] => name thread.1.lines.0 load  0
-lines = [] => range counts 0 2 2
+lines = [] => taken
 lines = []; times = '1' => wrong_kind thread.1.times
 lines = []; times = 0 => range thread.1.times 0 1 4096
-lines = []; times = 1 => range counts 0 2 2
-lines = []; times = 4096 => range counts 0 2 2
+lines = []; times = 1 => taken
+lines = []; times = 4096 => taken
 lines = []; times = 4097 => range thread.1.times 4097 1 4096
 ";
 
 #[test]
 fn faults_of_a_thread_of_lines(rt: HostRuntime) -> Result<(), Fail> {
-    let prefix = format!(in rt.alloc(); "{HEAD}{FIRST}kind = 'steps'\n")?;
+    let prefix = format!(in rt.alloc(); "{FIRST}kind = 'steps'\n")?;
     assert_answers(&rt, rt.alloc(), prefix.as_str(), LINES)
 }
 
 const ADDER: &str = " => missing thread.1.cell
 cell = '0' => wrong_kind thread.1.cell
 cell = -1 => range thread.1.cell -1 0 63
-cell = 0 => range counts 0 2 2
-cell = 63 => range counts 0 2 2
+cell = 0 => taken
+cell = 63 => taken
 cell = 64 => range thread.1.cell 64 0 63
 cell = 0; tries = 1.0 => wrong_kind thread.1.tries
 cell = 0; tries = 0 => range thread.1.tries 0 1 4096
-cell = 0; tries = 1 => range counts 0 2 2
-cell = 0; tries = 4096 => range counts 0 2 2
+cell = 0; tries = 1 => taken
+cell = 0; tries = 4096 => taken
 cell = 0; tries = 4097 => range thread.1.tries 4097 1 4096
 ";
 
 #[test]
 fn faults_of_a_thread_that_adds(rt: HostRuntime) -> Result<(), Fail> {
-    let prefix = format!(in rt.alloc(); "{HEAD}{FIRST}kind = 'adder'\n")?;
+    let prefix = format!(in rt.alloc(); "{FIRST}kind = 'adder'\n")?;
     assert_answers(&rt, rt.alloc(), prefix.as_str(), ADDER)
 }
 
 const COUNTS_AND_CELLS: &str = "counts = [1]; thread = [1] => wrong_kind thread.0
 counts = [1]; monitors = ['cell_end 0 1'] => range counts 1 0 0
-counts = []; monitors = ['expect', 'cell_end 0 1'] => name monitors.1 cell_end 0 1
-counts = []; monitors = ['cell_end 70000 1'] => name monitors.0 cell_end 70000 1
+monitors = ['expect', 'cell_end 0 1'] => name monitors.1 cell_end 0 1
+monitors = ['cell_end 70000 1'] => name monitors.0 cell_end 70000 1
 counts = [0]; thread = [{kind = 'adder', cell = 0}] => taken
 counts = [65536]; thread = [{kind = 'adder', cell = 0}] => taken
 counts = [65536, 1]; thread = [{kind = 'adder', cell = 0}, {kind = 'adder', cell = 0}] => range counts 65537 0 65536
 counts = [65535, 1]; thread = [{kind = 'adder', cell = 0}, {kind = 'adder', cell = 0}] => taken
-counts = []; world.cells = 64; monitors = ['cell_end 63 18446744073709551615'] => taken
-counts = []; world.cells = 64; monitors = ['cell_end 64 0'] => name monitors.0 cell_end 64 0
+world.cells = 64; monitors = ['cell_end 63 18446744073709551615'] => taken
+world.cells = 64; monitors = ['cell_end 64 0'] => name monitors.0 cell_end 64 0
 ";
 
 #[test]
 fn the_counts_come_after_the_threads_and_the_cells_last(rt: HostRuntime) -> Result<(), Fail> {
-    assert_answers(&rt, rt.alloc(), "tapes = {}\n", COUNTS_AND_CELLS)
+    assert_answers(&rt, rt.alloc(), "", COUNTS_AND_CELLS)
 }
 
 const NO_TOML: &str = "= 1 => not_toml
@@ -391,7 +389,7 @@ const ARRAYS: [Long; 8] = [
         item: "'oldest', ",
         times: 256,
         back: "]}]",
-        due: "range counts 0 1 1",
+        due: "taken",
     },
     Long {
         prefix: "thread = [{kind = 'steps', lines = [",
@@ -404,41 +402,17 @@ const ARRAYS: [Long; 8] = [
 
 #[test]
 fn arrays_up_to_their_length(rt: HostRuntime) -> Result<(), Fail> {
-    assert_lengths(&rt, rt.alloc(), HEAD, &ARRAYS)
+    assert_lengths(&rt, rt.alloc(), "", &ARRAYS)
 }
 
-const TAPES: [Long; 4] = [
-    Long {
-        prefix: "tapes.selected = [",
-        item: "9223372036854775807, ",
-        times: 65_536,
-        back: "]",
-        due: "taken",
-    },
-    Long {
-        prefix: "tapes.selected = [",
-        item: "0, ",
-        times: 65_537,
-        back: "]",
-        due: "range tapes.selected 65537 0 65536",
-    },
-    Long {
-        prefix: "tapes.other = [",
-        item: "9223372036854775807, ",
-        times: 65_536,
-        back: "]",
-        due: "taken",
-    },
-    Long {
-        prefix: "tapes.other = [",
-        item: "0, ",
-        times: 65_537,
-        back: "]",
-        due: "range tapes.other 65537 0 65536",
-    },
-];
-
 #[test]
-fn tapes_up_to_their_length(rt: HostRuntime) -> Result<(), Fail> {
-    assert_lengths(&rt, rt.alloc(), "counts = []\n", &TAPES)
+fn a_tape_of_as_many_entries_as_a_run_has_steps(rt: HostRuntime) -> Result<(), Fail> {
+    let full = Long {
+        prefix: "tapes.selected = [",
+        item: "0,",
+        times: 65_536,
+        back: "]",
+        due: "taken",
+    };
+    assert_lengths(&rt, rt.alloc(), "", &[full])
 }

@@ -3,7 +3,7 @@ ghost use Rattle.surw_base.specs.declared.limits.TheConstants.{STEPS};
 ghost use Rattle.toml.specs.Data.{get_member};
 ghost use Rattle.toml.specs.View.{items_view, table_view};
 ghost use Rattle.scenario_toml.specs.Faults.{IsFaultOf};
-ghost use Rattle.scenario_toml.specs.TopTable.{lists, parts, select_in, settings, strategy_in, tapes_in, threads_in, watches_in, world_in_top};
+ghost use Rattle.scenario_toml.specs.TopTable.{lists, parts, select_in, settings, strategy_in, table_in, threads_in, watches_in};
 
 use crate::read::counts::read_counts;
 use crate::read::items::Item;
@@ -89,8 +89,8 @@ fn strategy_at(alloc: Global, table: &Table) -> Result<Strategy, ScenarioFault>
 pub(crate) struct Lists {
     /// What is selected.
     pub(crate) select: Vec<Pickable>,
-    /// The counts.
-    pub(crate) counts: Vec<u32>,
+    /// The counts, where they are given.
+    pub(crate) counts: Option<Vec<u32>>,
     /// What is watched for.
     pub(crate) watches: Vec<Watch>,
 }
@@ -100,7 +100,7 @@ pub(crate) struct Lists {
 pub(crate) fn read_lists(alloc: Global, table: &Table) -> Result<Lists, ScenarioFault>
     ensures ok { IfOk result (λ l.
         lists (table_view table.now)
-        ≡ Ok (record { select = l.select.items; counts = l.counts.items; watches = l.watches.items })) }
+        ≡ Ok (record { select = l.select.items; counts = option_map (λ c. c.items) l.counts; watches = l.watches.items })) }
     ensures fault { IfErr result (IsFaultOf (lists (table_view table.now))) }
     ensures few { IfOk result (λ l. length l.watches.items ≤ MONITORS) }
 {
@@ -143,7 +143,7 @@ pub(crate) struct Parts<'a> {
     /// The table `world`.
     pub(crate) world: Option<&'a Table>,
     /// The table `tapes`.
-    pub(crate) tapes: &'a Table,
+    pub(crate) tapes: Option<&'a Table>,
     /// The array `thread`, at most `THREADS` items.
     pub(crate) threads: Option<&'a [Value]>,
 }
@@ -155,14 +155,14 @@ pub(crate) fn read_parts<'a>(alloc: Global, table: &'a Table) -> Result<Parts<'a
         parts (table_view table.now)
         ≡ Ok (record {
           world = option_map (λ t. table_view t.now) p.world;
-          tapes = table_view p.tapes.now;
+          tapes = option_map (λ t. table_view t.now) p.tapes;
           threads = option_map (λ t. items_view t.now) p.threads;
         })) }
     ensures fault { IfErr result (IsFaultOf (parts (table_view table.now))) }
     ensures few { IfOk result (λ p. IfSome p.threads (λ t. length t.now ≤ THREADS)) }
 {
-    let world = world_at(alloc, table)?;
-    let tapes = tapes_at(alloc, table)?;
+    let world = table_at(alloc, table, "world")?;
+    let tapes = table_at(alloc, table, "tapes")?;
     let threads = threads_at(alloc, table)?;
     Ok(Parts {
         world,
@@ -171,33 +171,22 @@ pub(crate) fn read_parts<'a>(alloc: Global, table: &'a Table) -> Result<Parts<'a
     })
 }
 
-// The table `world`.
-fn world_at<'a>(alloc: Global, table: &'a Table) -> Result<Option<&'a Table>, ScenarioFault>
-    ensures ok { IfOk result (λ found. world_in_top (table_view table.now) ≡ Ok (option_map (λ t. table_view t.now) found)) }
-    ensures fault { IfErr result (IsFaultOf (world_in_top (table_view table.now))) }
+// The table of a key.
+fn table_at<'a>(
+    alloc: Global,
+    table: &'a Table,
+    name: &str,
+) -> Result<Option<&'a Table>, ScenarioFault>
+    ensures ok { IfOk result (λ found. table_in name.now (table_view table.now) ≡ Ok (option_map (λ t. table_view t.now) found)) }
+    ensures fault { IfErr result (IsFaultOf (table_in name.now (table_view table.now))) }
 {
-    match value_at(table, "world") {
+    match value_at(table, name) {
         None => Ok(None),
         Some(value) => match value.as_table() {
             Some(found) => Ok(Some(found)),
             None => Err(ScenarioFault::WrongKind {
-                key: KeyName::new(alloc, b"", "world")?,
+                key: KeyName::new(alloc, b"", name)?,
             }),
-        },
-    }
-}
-
-// The table `tapes`.
-fn tapes_at<'a>(alloc: Global, table: &'a Table) -> Result<&'a Table, ScenarioFault>
-    ensures ok { IfOk result (λ found. tapes_in (table_view table.now) ≡ Ok (table_view found.now)) }
-    ensures fault { IfErr result (IsFaultOf (tapes_in (table_view table.now))) }
-{
-    let key = KeyName::new(alloc, b"", "tapes")?;
-    match value_at(table, "tapes") {
-        None => Err(ScenarioFault::Missing { key }),
-        Some(value) => match value.as_table() {
-            Some(found) => Ok(found),
-            None => Err(ScenarioFault::WrongKind { key }),
         },
     }
 }

@@ -1,5 +1,6 @@
-use Rattle.std.proofs.Common.{refl, arith}
+use Rattle.std.proofs.Common.{◌≡◌, ℕ, length, refl, subst, arith}
 use Rattle.std.proofs.lemmas.Grind.{common_steps}
+use Rattle.scenario_toml.specs.State.{HasCounts}
 use Rattle.scenario_toml.proofs.read.read_table.Goals as goal
 
 pub invariant_of-result : goal.invariant_of-result
@@ -11,10 +12,9 @@ invariant_of-result c = record {
   limits = c.in_ok-size.ensures.limits;
   no_devices = c.in_ok-size.ensures.no_devices;
   threads = c.in_ok-routines.ensures.few;
-  counted = grind (arith, common_steps);
-  few = grind (arith, common_steps);
+  counted =
+      let many : c.len.result ≡ length c.in_ok-routines.routines.items = grind (arith, common_steps) in
+      subst (λ (threads : ℕ). HasCounts c.in_ok-counts.counts threads) many c.in_ok-counts.ensures.counted;
   watchers = grind (arith, common_steps);
   watched = c.in_ok-monitors.ensures.watched c.in_ok-size.size refl;
-  selected_few = c.in_ok-entries.ensures.few.0;
-  other_few = c.in_ok-entries.ensures.few.1;
 }
