@@ -1,6 +1,8 @@
 // The job `plan` as an ordinary, fast Rust program, to compare with. It takes scenarios of cells, locks and
-// threads of the kind `steps`, under `urw`, `surw` or `pct` with given counts or under `plain`, with tapes. A
-// file that is past this ends with status 3 and no fault line.
+// threads of the kind `steps`, with counts that are given or by profile, and with tapes or a seed. A file that
+// is past this ends with status 3 and no fault line.
+#[path = "plan/draws.rs"]
+mod draws;
 #[path = "plan/reading.rs"]
 mod reading;
 #[path = "plan/report.rs"]
@@ -8,9 +10,10 @@ mod report;
 #[path = "plan/run.rs"]
 mod run;
 
+use draws::{Draws, Streams, Tapes};
 use reading::read;
 use report::report;
-use run::run;
+use run::{profile, run};
 use std::io::Write;
 use std::process::exit;
 
@@ -69,12 +72,14 @@ enum Operand {
     Register(usize),
 }
 
+#[derive(Clone)]
 enum Line {
     Act { verb: Verb, args: [Operand; 3], into: Option<usize> },
     Plus { register: usize, by: Operand },
     Skip { over: usize, register: usize, equal: bool, with: Operand },
 }
 
+#[derive(Clone)]
 struct Routine {
     lines: Vec<Line>,
     times: u64,
@@ -143,14 +148,16 @@ enum Monitor {
 struct Scenario {
     max_steps: u64,
     strategy: u8,
+    seed: u64,
     depth: u64,
     select: Vec<Pickable>,
-    counts: Vec<u64>,
+    // None: by profile.
+    counts: Option<Vec<u64>>,
     monitors: Vec<Monitor>,
     cells: usize,
     locks: usize,
-    selected: Vec<u64>,
-    other: Vec<u64>,
+    // The selected and the other tape. None: by the seed.
+    tapes: Option<(Vec<u64>, Vec<u64>)>,
     routines: Vec<Routine>,
 }
 
@@ -179,6 +186,7 @@ struct Run {
     holders: Vec<Option<usize>>,
     checks: u64,
     failed: Vec<Option<usize>>,
+    bent: u64,
 }
 
 fn main() {
@@ -187,12 +195,18 @@ fn main() {
     if words[1] != "plan" || text.len() > FILE_LIMIT {
         exit(2);
     }
-    let Some(mut scenario) = read(&text) else { exit(3) };
-    let run = match scenario.strategy {
-        URW => run::<URW>(&mut scenario),
-        SURW => run::<SURW>(&mut scenario),
-        PCT => run::<PCT>(&mut scenario),
-        _ => run::<PLAIN>(&mut scenario),
+    let Some(scenario) = read(&text) else { exit(3) };
+    let counts = match &scenario.counts {
+        _ if scenario.strategy == PLAIN => vec![0; scenario.routines.len()],
+        Some(counts) => counts.clone(),
+        None => profile(&scenario).unwrap_or_else(|fault| {
+            println!("fault profile {fault}");
+            exit(3)
+        }),
+    };
+    let run = match &scenario.tapes {
+        Some((selected, other)) => run_of(&scenario, &counts, &mut Tapes::new(selected, other)),
+        None => run_of(&scenario, &counts, &mut Streams::of_run(scenario.seed, scenario.strategy)),
     };
     std::io::stdout().write_all(&report(&run, &scenario.monitors)).unwrap();
     exit(match run.verdict {
@@ -202,4 +216,14 @@ fn main() {
         Verdict::StepLimit => 7,
         Verdict::Short { .. } | Verdict::Large { .. } => 11,
     });
+}
+
+// The run under the strategy of the scenario.
+fn run_of(scenario: &Scenario, counts: &[u64], draws: &mut impl Draws) -> Run {
+    match scenario.strategy {
+        URW => run::<URW>(scenario, counts, draws),
+        SURW => run::<SURW>(scenario, counts, draws),
+        PCT => run::<PCT>(scenario, counts, draws),
+        _ => run::<PLAIN>(scenario, counts, draws),
+    }
 }

@@ -233,13 +233,13 @@ pub fn read(text: &str) -> Option<Scenario> {
     let mut reader = Reader { text, at: 0 };
     let mut max_steps = STEPS;
     let mut strategy = "surw";
+    let mut seed = 0;
     let mut depth = 3;
     let mut select = vec![Pickable::Every];
     let mut counts = None;
     let mut monitors = Vec::new();
     let (mut cells, mut locks) = (0, 0);
-    let mut tapes = false;
-    let (mut selected, mut other) = (Vec::new(), Vec::new());
+    let mut tapes: Option<(Vec<u64>, Vec<u64>)> = None;
     let mut threads: Vec<(Option<&str>, Option<Vec<Line>>, u64)> = Vec::new();
     let mut table = "";
     loop {
@@ -254,7 +254,7 @@ pub fn read(text: &str) -> Option<Scenario> {
             table = "world";
         } else if reader.eat_word("[tapes]").is_some() {
             table = "tapes";
-            tapes = true;
+            tapes.get_or_insert_with(Default::default);
         } else {
             let key = reader.key();
             reader.spaces();
@@ -268,14 +268,18 @@ pub fn read(text: &str) -> Option<Scenario> {
                     Value::Text(text) => strategy = text,
                     _ => return None,
                 },
+                ("", "seed") => seed = value.within(0, i64::MAX as u64)?,
                 ("", "depth") => depth = value.within(1, 16)?,
                 ("", "select") => select = value.texts(32)?.into_iter().map(pickable).collect::<Option<_>>()?,
-                ("", "counts") => counts = Some(value.numbers(THREADS as u64, STEPS)?),
+                ("", "counts") => match value {
+                    Value::Text("profile") => counts = None,
+                    list => counts = Some(list.numbers(THREADS as u64, STEPS)?),
+                },
                 ("", "monitors") => monitors = value.texts(16)?,
                 ("world", "cells") => cells = value.within(0, 64)? as usize,
                 ("world", "locks") => locks = value.within(0, 8)? as usize,
-                ("tapes", "selected") => (tapes, selected) = (true, value.numbers(STEPS, MAX)?),
-                ("tapes", "other") => (tapes, other) = (true, value.numbers(STEPS, MAX)?),
+                ("tapes", "selected") => tapes.get_or_insert_with(Default::default).0 = value.numbers(STEPS, MAX)?,
+                ("tapes", "other") => tapes.get_or_insert_with(Default::default).1 = value.numbers(STEPS, MAX)?,
                 ("thread", "kind") => match value {
                     Value::Text("steps") => threads.last_mut()?.0 = Some("steps"),
                     _ => return None,
@@ -296,11 +300,8 @@ pub fn read(text: &str) -> Option<Scenario> {
         "plain" => PLAIN,
         _ => return None,
     };
-    if threads.len() > THREADS || !tapes || (strategy != PLAIN && counts.is_none()) {
-        return None;
-    }
-    let counts = counts.unwrap_or_else(|| vec![0; threads.len()]);
-    if counts.len() != threads.len() || counts.iter().sum::<u64>() > STEPS {
+    let fits = |counts: &Vec<u64>| counts.len() == threads.len() && counts.iter().sum::<u64>() <= STEPS;
+    if threads.len() > THREADS || !counts.as_ref().is_none_or(fits) {
         return None;
     }
     let mut routines = Vec::with_capacity(threads.len());
@@ -309,5 +310,5 @@ pub fn read(text: &str) -> Option<Scenario> {
         routines.push(Routine { lines: lines?, times, place: 0, registers: [0; 4] });
     }
     let monitors = monitors.into_iter().map(|text| monitor(text, cells)).collect::<Option<_>>()?;
-    Some(Scenario { max_steps, strategy, depth, select, counts, monitors, cells, locks, selected, other, routines })
+    Some(Scenario { max_steps, strategy, seed, depth, select, counts, monitors, cells, locks, tapes, routines })
 }

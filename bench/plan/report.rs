@@ -64,7 +64,7 @@ pub fn report(run: &Run, monitors: &[Monitor]) -> Vec<u8> {
     push_list(&mut out, "steps", [step]);
     push_list(&mut out, "selected", [selected as u64]);
     push_list(&mut out, "forced", [run.journal.iter().filter(|entry| entry.forced).count() as u64]);
-    out.extend_from_slice(b"bent 0\n");
+    push_list(&mut out, "bent", [run.bent]);
     push_list(&mut out, "switches", [switches as u64]);
     let order = run.journal.iter().filter(|entry| entry.chosen).map(|entry| u64::from(entry.thread));
     push_list(&mut out, "order", order);

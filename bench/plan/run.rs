@@ -16,15 +16,6 @@ fn has(select: &[Pickable], event: &Event) -> bool {
     })
 }
 
-// The next draw of a strict tape, below a bound.
-fn strict(tape: &[u64], place: usize, below: u64) -> Result<u64, Verdict> {
-    match tape.get(place) {
-        None => Err(Verdict::Short { place }),
-        Some(&kept) if kept >= below => Err(Verdict::Large { place, kept, below }),
-        Some(&draw) => Ok(draw),
-    }
-}
-
 // The thread at a place of the bag in which each thread stands as often as its weight says.
 fn pick(weights: &[u64; THREADS], mut place: u64) -> usize {
     let mut thread = 0;
@@ -35,10 +26,9 @@ fn pick(weights: &[u64; THREADS], mut place: u64) -> usize {
     thread
 }
 
-// The member of a set, from the least on, that the loose tape names.
-fn pick_of_set(mut set: u32, tape: &[u64], step: usize) -> usize {
-    let place = tape.get(step).map_or(0, |entry| entry % u64::from(set.count_ones()));
-    for _ in 0..place {
+// The member of a set, from the least on, that an other draw names.
+fn pick_of_set(mut set: u32, draws: &mut impl Draws) -> usize {
+    for _ in 0..draws.other(u64::from(set.count_ones())) {
         set &= set - 1;
     }
     set.trailing_zeros() as usize
@@ -53,12 +43,12 @@ struct Ranks {
 }
 
 impl Ranks {
-    fn draw(threads: usize, depth: u64, sum: u64, tape: &[u64]) -> Result<Ranks, Verdict> {
+    fn draw(threads: usize, depth: u64, sum: u64, draws: &mut impl Draws) -> Result<Ranks, Verdict> {
         let mut rest: Vec<usize> = (0..threads).collect();
         let mut ranked = Vec::with_capacity(threads);
         let mut priority = [0; THREADS];
         for place in 0..threads {
-            let draw = strict(tape, place, rest.len() as u64)?;
+            let draw = draws.selected(rest.len() as u64)?;
             let thread = rest.remove(draw as usize);
             priority[thread] = depth - 1 + (threads - place) as u64;
             ranked.push(thread);
@@ -66,7 +56,7 @@ impl Ranks {
         let mut changes = Vec::new();
         if sum > 0 {
             for low in 1..depth {
-                changes.push((strict(tape, threads + low as usize - 1, sum)?, low));
+                changes.push((draws.selected(sum)?, low));
             }
         }
         changes.sort_by(|a, b| b.cmp(a));
@@ -111,9 +101,28 @@ fn is_wrong<const STRATEGY: u8>(word: &Option<Event>, chosen: bool, left: u64) -
     }
 }
 
+// The counts by profile: of the selected events of a plain run by a stream of its own under `surw`, and of all its
+// events else. Or why that run stops. That the monitors look on changes nothing.
 #[inline(never)]
-pub fn run<const STRATEGY: u8>(scenario: &mut Scenario) -> Run {
-    let Scenario { max_steps, depth, select, counts, monitors, cells, locks, selected, other, routines, .. } = scenario;
+pub fn profile(scenario: &Scenario) -> Result<Vec<u64>, String> {
+    let run = run::<PLAIN>(scenario, &vec![0; scenario.routines.len()], &mut Streams::of_profile(scenario.seed));
+    match run.verdict {
+        Verdict::Ended => {
+            let mut counts = vec![0; scenario.routines.len()];
+            for entry in run.journal.iter().filter(|entry| scenario.strategy != SURW || entry.chosen) {
+                counts[usize::from(entry.thread)] += 1;
+            }
+            Ok(counts)
+        }
+        Verdict::Deadlock => Err(format!("deadlock {}", run.journal.len())),
+        _ => Err("step_limit".to_string()),
+    }
+}
+
+#[inline(never)]
+pub fn run<const STRATEGY: u8>(scenario: &Scenario, counts: &[u64], draws: &mut impl Draws) -> Run {
+    let Scenario { max_steps, depth, select, monitors, cells, locks, .. } = scenario;
+    let mut routines = scenario.routines.clone();
     let threads = routines.len();
     let mut cells = vec![0u64; *cells];
     let mut holders: Vec<Option<usize>> = vec![None; *locks];
@@ -131,9 +140,8 @@ pub fn run<const STRATEGY: u8>(scenario: &mut Scenario) -> Run {
     let mut weights = [0u64; THREADS];
     let mut sum = 0u64;
     let mut wrong = None;
-    // Under `surw` the intended thread, as a set of at most one, and how many selected draws were taken.
+    // Under `surw` the intended thread, as a set of at most one.
     let mut intended = 0u32;
-    let mut taken = 0;
     let mut ranks = None;
     let mut announced: Vec<Option<Event>> = routines.iter_mut().map(Routine::announce).collect();
     for thread in 0..threads {
@@ -175,32 +183,31 @@ pub fn run<const STRATEGY: u8>(scenario: &mut Scenario) -> Run {
         }
         let mut forced = false;
         let thread = match STRATEGY {
-            URW => match strict(selected, step, sum) {
+            URW => match draws.selected(sum) {
                 Ok(draw) => pick(&weights, draw),
                 Err(refused) => break refused,
             },
             SURW => {
                 if intended == 0 && sum > 0 {
-                    match strict(selected, taken, sum) {
+                    match draws.selected(sum) {
                         Ok(draw) => intended = 1 << pick(&left, draw),
                         Err(refused) => break refused,
                     }
-                    taken += 1;
                 }
                 let candidates = able & (!choosing | intended);
                 forced = candidates == 0;
-                pick_of_set(if forced { able } else { candidates }, other, step)
+                pick_of_set(if forced { able } else { candidates }, draws)
             }
             PCT => {
                 if step == 0 {
-                    match Ranks::draw(threads, *depth, counts.iter().sum(), selected) {
+                    match Ranks::draw(threads, *depth, counts.iter().sum(), draws) {
                         Ok(drawn) => ranks = Some(drawn),
                         Err(refused) => break refused,
                     }
                 }
                 ranks.as_mut().unwrap().grant(step as u64, able)
             }
-            _ => pick_of_set(able, other, step),
+            _ => pick_of_set(able, draws),
         };
         let bit = 1u32 << thread;
         let event = announced[thread].unwrap();
@@ -321,5 +328,5 @@ pub fn run<const STRATEGY: u8>(scenario: &mut Scenario) -> Run {
             }
         }
     }
-    Run { verdict, journal, announced, cells, holders, checks, failed }
+    Run { verdict, journal, announced, cells, holders, checks, failed, bent: draws.bent() }
 }
