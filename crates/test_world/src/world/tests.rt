@@ -1,7 +1,12 @@
-ghost use Rattle.std.specs.Prelude.{◌≡◌};
+ghost use Rattle.std.specs.Prelude.{◌≡◌, ◌≤◌};
+ghost use Rattle.surw_base.specs.declared.limits.TheConstants.{FRAMES, PAGES, SLOTS};
 
 use super::*;
 use std::test::Fail;
+
+mod cache_events;
+mod log_events;
+mod monitors;
 
 const MAX: u64 = u64::MAX;
 
@@ -15,6 +20,33 @@ fn size_of(cells: u16, locks: u16) -> WorldSize
         pages: 0,
         slots: 0,
     }
+}
+
+// A world with so many frames, pages and slots, and nothing else.
+fn devices(alloc: Global, frames: u16, pages: u16, slots: u16) -> Result<World, OutOfMemory>
+    requires frames { frames ≤ FRAMES }
+    requires pages { pages ≤ PAGES }
+    requires slots { slots ≤ SLOTS }
+{
+    let size = WorldSize {
+        cells: 0,
+        locks: 0,
+        frames,
+        pages,
+        slots,
+    };
+    World::new(alloc, &size)
+}
+
+// The place of the first event that isn't enabled, or to which the world doesn't reply so.
+fn first_wrong(world: &mut World, rows: &[(Event, u64)]) -> Option<usize> {
+    let thread = ThreadNo::new(0)?;
+    for (i, (event, reply)) in rows.iter().enumerate() {
+        if !world.enabled(event) || world.apply(thread, event) != *reply {
+            return Some(i);
+        }
+    }
+    None
 }
 
 #[test]
@@ -95,19 +127,5 @@ fn a_held_lock_is_enabled_for_nobody(rt: HostRuntime) -> Result<(), Fail> {
     assert!(rt; !world.enabled(&acquire));
     assert!(rt; world.enabled(&Event::Release { l: 0 }));
     assert!(rt; world.enabled(&Event::Acquire { l: 1 }));
-    Ok(())
-}
-
-#[test]
-fn monitors_fail_where_they_should(rt: HostRuntime) -> Result<(), Fail> {
-    let mut world = World::new(rt.alloc(), &size_of(1, 0))?;
-    let zero = Monitor::CellEnd { cell: 0, value: 0 };
-    let one = Monitor::CellEnd { cell: 0, value: 1 };
-    assert!(rt; !world.failing(&zero) && world.failing(&one));
-    assert!(rt; !world.failing(&Monitor::Expect));
-    let thread = ThreadNo::new(0).expect(&rt, "thread 0");
-    world.apply(thread, &Event::Check { a: 1, b: 2 });
-    assert!(rt; world.failing(&Monitor::Expect));
-    assert!(rt; !world.failing(&Monitor::WriteAhead) && !world.failing(&Monitor::LogWhole));
     Ok(())
 }
