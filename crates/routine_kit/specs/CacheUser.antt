@@ -6,12 +6,12 @@ use Rattle.routine_kit.specs.declared.cache_user.CacheUser.{CacheUser}
 use Rattle.routine_kit.specs.declared.cache_user.Phase.{Phase}
 use Rattle.routine_kit.specs.declared.cache_user.Phase.TheVariants.{Acquire, Find, Claim, Fill, Read, Check, Release, Ended}
 
--- it begins with its lock, where it has one
+-- the phase at the beginning: the lock is acquired first, where there is one
 abbrev pub first_phase : Option ℕ → Phase
 first_phase None = Find
 first_phase (Some lock) = Acquire lock
 
--- it ends with its lock, where it has one
+-- the last phase: the lock is released, where there is one
 abbrev pub last_phase : Option ℕ → Phase
 last_phase None = Ended
 last_phase (Some lock) = Release lock

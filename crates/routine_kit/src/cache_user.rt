@@ -7,7 +7,7 @@ use std::alloc::Global;
 use surw_base::OutOfMemory;
 
 /// A routine that reads a page through the cache and checks its value: it finds the page's frame, or claims one and
-/// fills it. It may hold a lock all the while.
+/// fills it. Where no frame can be claimed it reads none. It may hold a lock from its beginning to its end.
 #[derive(Clone, Copy, Debug, PartialEq, Eq)]
 pub struct CacheUser {
     page: u64,
@@ -30,7 +30,7 @@ enum Phase {
 }
 
 impl CacheUser {
-    /// A user of a page that expects a value there, and holds the lock, if one is named. Each number may be any.
+    /// A user of a page that expects this value there, with a lock if one is named. Each number may be any.
     pub fn new(page: u64, expect: u64, lock: Option<u64>) -> CacheUser
         ensures { result ≡ new_cache_user page expect lock }
     {
@@ -66,6 +66,7 @@ impl Routine for CacheUser {
     }
 
     fn take(&mut self, reply: u64) {
+        // The greatest number says that no frame was found, or that none can be claimed.
         self.phase = match self.phase {
             Phase::Acquire { .. } => Phase::Find,
             Phase::Find if reply == u64::MAX => Phase::Claim,

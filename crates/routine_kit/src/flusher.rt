@@ -6,8 +6,8 @@ use event_class::Event;
 use std::alloc::Global;
 use surw_base::OutOfMemory;
 
-/// A routine that writes frames to the disk, the one that was written first in each round. It may mark the log as
-/// durable up to the frame's stamp before.
+/// A routine that writes frames to the disk, in each round the one that is the oldest. Before that it may mark the
+/// log as durable up to the frame's stamp.
 #[derive(Clone, Copy, Debug, PartialEq, Eq)]
 pub struct Flusher {
     // How many rounds are left, the one that has begun with them.
