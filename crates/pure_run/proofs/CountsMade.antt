@@ -75,8 +75,13 @@ made-sum selection journal threads =
     let longer : length (entries ++ entry ∷ []) ≡ length entries + 1 = length-append entries (entry ∷ []) in
     elim (cases_Bool (has selection entry.event)) [
       | inl selected ↦
-          omega (arith, less, longer, ap sum (made-next selection entries entry threads selected),
-            sum-one-more (counts_made selection entries threads) entry.thread)
+          omega (
+            arith,
+            less,
+            longer,
+            ap sum (made-next selection entries entry threads selected),
+            sum-one-more (counts_made selection entries threads) entry.thread,
+          )
       | inr skipped ↦ omega (arith, less, longer, ap sum (made-kept selection entries entry threads skipped))
     ])
 

@@ -1,5 +1,5 @@
 -- No two answers of a profile differ.
-use Rattle.std.proofs.Common.{◌≡◌, ℕ, List, [], ◌∷◌, refl, ap, sym, ◌∙◌}
+use Rattle.std.proofs.Common.{◌≡◌, ℕ, [], ◌∷◌, refl, ap, sym, ◌∙◌}
 use Rattle.event_class.specs.declared.pickable.Pickable.TheVariants.{Every}
 use Rattle.run_rules.specs.declared.verdict.Verdict.{Verdict}
 use Rattle.run_rules.specs.declared.verdict.Verdict.TheVariants as verdict
@@ -38,9 +38,10 @@ module _ (script : Script) (seed : ℕ) where
 pub one-profile : (script : Script) (seed : ℕ) → OneProfile script seed
 one-profile script seed = record {
   counts = λ selected all others totals one two.
-      let same = same-outcome script seed verdict.Ended verdict.Ended one.ends two.ends in
-      (two.selected_made ∙ ap (λ (outcome : Outcome). counts_made script.setup.selection outcome.journal script.setup.threads) same ∙ sym one.selected_made,
-        two.all_made ∙ ap (λ (outcome : Outcome). counts_made (Every ∷ []) outcome.journal script.setup.threads) same ∙ sym one.all_made);
+      let same = same-outcome script seed verdict.Ended verdict.Ended one.ends two.ends in (
+        two.selected_made ∙ ap (λ (outcome : Outcome). counts_made script.setup.selection outcome.journal script.setup.threads) same ∙ sym one.selected_made,
+        two.all_made ∙ ap (λ (outcome : Outcome). counts_made (Every ∷ []) outcome.journal script.setup.threads) same ∙ sym one.all_made,
+      );
   ends = λ selected all fault is stop. ends-alone script seed fault is.ends stop;
   stops = λ fault other not_memory nor_memory is twin. one-stop script seed fault other not_memory nor_memory is twin;
 }

@@ -86,7 +86,10 @@ fn plan(
 
 // The counts of threads 0 and 1.
 fn of_two(counts: &Weights) -> [Option<u32>; 2] {
-    [counts.as_slice().get(0).copied(), counts.as_slice().get(1).copied()]
+    [
+        counts.as_slice().get(0).copied(),
+        counts.as_slice().get(1).copied(),
+    ]
 }
 
 // The counts of threads 0 and 1 in the profile of such a plan, selected and all, or why it has none.

@@ -1,4 +1,4 @@
-use Rattle.std.proofs.Common.{[], ◌∷◌, refl, sym, ap, ◌∙◌, take, arith}
+use Rattle.std.proofs.Common.{[], ◌∷◌, refl, sym, ◌∙◌, arith}
 use Rattle.surw_base.specs.declared.limits.TheConstants.{THREADS}
 use Rattle.event_class.specs.declared.pickable.Pickable.TheVariants.{Every}
 use Rattle.run_rules.specs.EventsMade.{events_made}
@@ -13,13 +13,19 @@ loop-entry-init c = record { selected = refl; all = refl }
 
 pub overflow_add-selected : goal.overflow_add-selected
 overflow_add-selected c =
-    omega (arith, counts-few c.args.selection.now c.args.journal.now c.loop-entry.entry-index c.entry-item.result THREADS c.loop-entry.selected
-      c.loop-entry.invariant.selected c.loop-entry-test.true c.entry-item.is c.from-thread.result)
+    omega (
+      arith,
+      counts-few c.args.selection.now c.args.journal.now c.loop-entry.entry-index c.entry-item.result THREADS c.loop-entry.selected
+          c.loop-entry.invariant.selected c.loop-entry-test.true c.entry-item.is c.from-thread.result,
+    )
 
 pub overflow_add-all : goal.overflow_add-all
 overflow_add-all c =
-    omega (arith, counts-few (Every ∷ []) c.args.journal.now c.loop-entry.entry-index c.entry-item.result THREADS c.loop-entry.all
-      c.loop-entry.invariant.all c.loop-entry-test.true c.entry-item.is c.from-thread.result)
+    omega (
+      arith,
+      counts-few (Every ∷ []) c.args.journal.now c.loop-entry.entry-index c.entry-item.result THREADS c.loop-entry.all
+          c.loop-entry.invariant.all c.loop-entry-test.true c.entry-item.is c.from-thread.result,
+    )
 
 pub loop-entry-preserved : goal.loop-entry-preserved
 loop-entry-preserved c =
@@ -38,5 +44,5 @@ loop-entry-preserved c =
             c.loop-entry-test.true c.entry-item.is (sym c.has.ensures ∙ w.if-has.false)
       ];
       all = counts-next (Every ∷ []) journal k entry THREADS c.loop-entry.all c.loop-entry.invariant.all
-      c.loop-entry-test.true c.entry-item.is thread same refl;
+          c.loop-entry-test.true c.entry-item.is thread same refl;
     }

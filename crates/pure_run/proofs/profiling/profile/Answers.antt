@@ -24,7 +24,7 @@ returns-in-StepLimit-clause-stopped g c =
       outcome = run;
       run = c.in_ok-run.ensures;
       verdict = limit-step script.setup.max_steps run.verdict c.in-StepLimit.step
-        (outcome-verdict script c.args.seed run c.in_ok-run.ensures) (sym c.verdict.ensures ∙ c.in-StepLimit.is);
+          (outcome-verdict script c.args.seed run c.in_ok-run.ensures) (sym c.verdict.ensures ∙ c.in-StepLimit.is);
     }
 
 pub unreachable-requires : goal.unreachable-requires
