@@ -1,4 +1,6 @@
+pub mod CacheLines
 pub mod Counts
+pub mod LogLines
 pub mod MonitorLines
 pub mod NextLines
 pub mod Report

@@ -1,7 +1,11 @@
-ghost use Rattle.std.specs.Prelude.{◌≡◌, ◌∷◌, [], ◌++◌, codes, OnOk};
+ghost use Rattle.std.specs.Prelude.{◌≡◌, ◌∷◌, ◌++◌, codes, OnOk};
 ghost use Rattle.surw_base.specs.Lines.{list_line, number_line};
+ghost use Rattle.report_text.specs.CacheLines.{frames_line, pages_line};
+ghost use Rattle.report_text.specs.LogLines.{slots_line};
 ghost use Rattle.report_text.specs.WorldLines.{holder_text, locks_line};
 
+use crate::cache_lines::push_cache_lines;
+use crate::log_lines::push_log_lines;
 use surw_base::{OutOfMemory, ThreadNo, push_item, push_list_line, push_number};
 use test_world::World;
 
@@ -10,22 +14,18 @@ pub(crate) fn push_world_lines(text: &mut Vec<u8>, world: &World) -> Result<(), 
     ensures { OnOk result (text.new.items ≡ text.old.items
         ++ list_line (codes "cells") world.now.cells
         ++ locks_line world.now.locks
-        ++ list_line (codes "free") []
-        ++ list_line (codes "clean") []
-        ++ list_line (codes "dirty") []
-        ++ list_line (codes "pages") []
-        ++ list_line (codes "slots") []
-        ++ number_line (codes "mark") 0
+        ++ list_line (codes "free") world.now.cache.free
+        ++ frames_line (codes "clean") world.now.cache world.now.cache.clean
+        ++ frames_line (codes "dirty") world.now.cache world.now.cache.dirty
+        ++ pages_line world.now.cache.disk
+        ++ slots_line world.now.log.reserved
+        ++ number_line (codes "mark") world.now.log.mark
         ++ number_line (codes "checks") world.now.checks) }
 {
     push_cells_line(text, world)?;
     push_locks_line(text, world)?;
-    push_list_line(text, b"free", &[])?;
-    push_list_line(text, b"clean", &[])?;
-    push_list_line(text, b"dirty", &[])?;
-    push_list_line(text, b"pages", &[])?;
-    push_list_line(text, b"slots", &[])?;
-    push_list_line(text, b"mark", &[0])?;
+    push_cache_lines(text, world)?;
+    push_log_lines(text, world.log())?;
     push_list_line(text, b"checks", &[world.checks()])
 }
 
