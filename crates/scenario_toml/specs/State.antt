@@ -6,7 +6,7 @@ use Rattle.routine_kit.specs.declared.any_routine.AnyRoutine.{AnyRoutine}
 use Rattle.test_world.specs.declared.monitor.Monitor.{Monitor}
 use Rattle.test_world.specs.declared.size.WorldSize.{WorldSize}
 use Rattle.test_world.specs.Monitor.{CanWatch}
-use Rattle.test_world.specs.Size.{IsWithinLimits, HasNoDevices}
+use Rattle.test_world.specs.Size.{IsWithinLimits}
 use Rattle.scenario_toml.specs.declared.counts_rule.CountsRule.{CountsRule}
 use Rattle.scenario_toml.specs.declared.counts_rule.CountsRule.TheVariants.{Profile, Given}
 use Rattle.scenario_toml.specs.declared.strategy.Strategy.{Strategy}
@@ -37,7 +37,6 @@ pub record IsScenario (s : ScenarioState) : Type 0 where
   pub steps_some : 1 ≤ s.max_steps
   pub steps_most : s.max_steps ≤ STEPS
   pub limits : IsWithinLimits s.size
-  pub no_devices : HasNoDevices s.size
   pub threads : length s.routines ≤ THREADS
   pub counted : HasCounts s.counts (length s.routines)
   pub watchers : length s.monitors ≤ MONITORS

@@ -4,8 +4,6 @@ use Rattle.std.specs.List.{find}
 use Rattle.std.specs.Fmt.{decimal}
 use Rattle.std.specs.Str.{bytes_eq}
 use Rattle.surw_base.specs.Tokens.{tokens, number_at}
-use Rattle.scenario_toml.specs.declared.kind.Kind.{Kind}
-use Rattle.scenario_toml.specs.declared.kind.Kind.TheVariants as kind
 use Rattle.scenario_toml.specs.declared.strategy.Strategy.{Strategy}
 use Rattle.scenario_toml.specs.declared.strategy.Strategy.TheVariants.{Urw, Surw, Pct, Plain}
 use Rattle.scenario_toml.specs.declared.watch.Watch.{Watch}
@@ -20,14 +18,6 @@ strategy_text Plain = codes "plain"
 
 abbrev pub strategy_of : List ℕ → Option Strategy
 strategy_of text = find (λ strategy. bytes_eq (strategy_text strategy) text) (Urw ∷ Surw ∷ Pct ∷ Plain ∷ [])
-
--- the words of a thread's `kind`
-abbrev pub kind_text : Kind → List ℕ
-kind_text kind.Steps = codes "steps"
-kind_text kind.Adder = codes "adder"
-
-abbrev pub kind_of : List ℕ → Option Kind
-kind_of text = find (λ kind. bytes_eq (kind_text kind) text) (kind.Steps ∷ kind.Adder ∷ [])
 
 -- a number below 2 ^ 64
 abbrev pub is_small : ℕ → Bool

@@ -1,63 +1,44 @@
 -- The tables of `thread`.
 use Rattle.std.specs.Prelude.{List, ℕ, [], ◌∷◌, ◌++◌, Option, None, Some, Result, Ok, codes}
-use Rattle.surw_base.specs.declared.limits.TheConstants.{LINES}
-use Rattle.toml.specs.Data.{Data, Items, Members, as_table, get_member}
+use Rattle.std.specs.List.{find}
+use Rattle.std.specs.Str.{bytes_eq}
+use Rattle.toml.specs.Data.{Data, Items, Members, as_table}
 use Rattle.routine_kit.specs.declared.any_routine.AnyRoutine.{AnyRoutine}
-use Rattle.routine_kit.specs.declared.any_routine.AnyRoutine.TheVariants as routine
-use Rattle.routine_kit.specs.declared.line.Line.{Line}
-use Rattle.routine_kit.specs.Steps.{settled}
 use Rattle.scenario_toml.specs.declared.fault.ScenarioFault.{ScenarioFault}
-use Rattle.scenario_toml.specs.declared.kind.Kind.{Kind}
-use Rattle.scenario_toml.specs.declared.kind.Kind.TheVariants.{Steps, Adder}
+use Rattle.scenario_toml.specs.Adder.{adder_in}
+use Rattle.scenario_toml.specs.CacheUser.{cache_user_in}
 use Rattle.scenario_toml.specs.Faults.{and_then}
-use Rattle.scenario_toml.specs.Keys.{key_at, times, cell, tries}
-use Rattle.routine_kit.specs.LineOf.{line_of}
-use Rattle.scenario_toml.specs.Values.{each, list, meant, number_in, of_kind, only, required, text_in, text_item}
-use Rattle.scenario_toml.specs.Texts.{kind_of}
+use Rattle.scenario_toml.specs.Flusher.{flusher_in}
+use Rattle.scenario_toml.specs.Keys.{key_at}
+use Rattle.scenario_toml.specs.LogWriter.{log_writer_in}
+use Rattle.scenario_toml.specs.Steps.{steps_in}
+use Rattle.scenario_toml.specs.Values.{each, meant, of_kind, text_in}
 
--- the kind has to be named
-abbrev pub kind_in : List ℕ → Members → Result Kind ScenarioFault
-kind_in path table = and_then (text_in path table (codes "kind")) (λ text. meant (path ++ codes "kind") text (kind_of text))
+-- a kind of thread: its name, and the routine of a table of it, where the path stands before the names of its keys
+pub record Kind : Type 0 where
+  pub name : List ℕ
+  pub routine : List ℕ → Members → Result AnyRoutine ScenarioFault
 
--- the keys of each kind
-abbrev pub kind_names : Kind → List (List ℕ)
-kind_names Steps = codes "kind" ∷ codes "lines" ∷ codes "times" ∷ []
-kind_names Adder = codes "kind" ∷ codes "cell" ∷ codes "tries" ∷ []
+-- the kinds, one line each
+abbrev pub kinds : List Kind
+kinds =
+    record { name = codes "steps"; routine = steps_in }
+    ∷ record { name = codes "adder"; routine = adder_in }
+    ∷ record { name = codes "cache_user"; routine = cache_user_in }
+    ∷ record { name = codes "flusher"; routine = flusher_in }
+    ∷ record { name = codes "log_writer"; routine = log_writer_in }
+    ∷ []
 
--- a line
-abbrev pub line_item : List ℕ → ℕ → Data → Result Line ScenarioFault
-line_item = text_item line_of
+-- the kind of this name
+abbrev pub kind_of : List ℕ → Option Kind
+kind_of text = find (λ kind. bytes_eq kind.name text) kinds
 
--- at most `LINES` lines, which have to be there
-unfoldable pub lines_in : List ℕ → Members → Result (List Line) ScenarioFault
-lines_in path table =
-    and_then (required (path ++ codes "lines") (get_member (codes "lines") table)) (list line_item (path ++ codes "lines") LINES)
-
--- lines that are run so many times
-unfoldable pub steps_in : List ℕ → Members → Result AnyRoutine ScenarioFault
-steps_in path table =
-    and_then (lines_in path table) (λ lines.
-    and_then (number_in path table times) (λ times.
-    Ok (routine.Steps (settled lines times 0 (0 ∷ 0 ∷ 0 ∷ 0 ∷ [])))))
-
--- an adder of a cell with so many tries
-unfoldable pub adder_in : List ℕ → Members → Result AnyRoutine ScenarioFault
-adder_in path table =
-    and_then (number_in path table cell) (λ cell.
-    and_then (number_in path table tries) (λ tries.
-    Ok (routine.Adder (record { cell = cell; tries = tries; loaded = None }))))
-
--- the routine of a kind
-abbrev pub of_this_kind : List ℕ → Members → Kind → Result AnyRoutine ScenarioFault
-of_this_kind path table Steps = steps_in path table
-of_this_kind path table Adder = adder_in path table
-
--- the kind, then a key that isn't one of it, then its keys in their order
+-- the kind, which has to be named, then a key that isn't one of it, then its keys in their order
 unfoldable pub routine_in : List ℕ → Members → Result AnyRoutine ScenarioFault
 routine_in path table =
-    and_then (kind_in path table) (λ kind.
-    and_then (only path (kind_names kind) table) (λ _.
-    of_this_kind path table kind))
+    and_then (text_in path table (codes "kind")) (λ text.
+    and_then (meant (path ++ codes "kind") text (kind_of text)) (λ kind.
+    kind.routine path table))
 
 -- a table of the array
 abbrev pub thread_item : List ℕ → ℕ → Data → Result AnyRoutine ScenarioFault

@@ -1,8 +1,8 @@
 -- How one value is read.
-use Rattle.std.specs.Prelude.{ℕ, ℤ, ◌+◌, ◌||◌, ltb, pos, int_lt, nat_abs, List, [], ◌∷◌, ◌++◌, Option, None, Some, Result, Ok, Err, if◌then◌else◌, ⊤}
+use Rattle.std.specs.Prelude.{ℕ, ℤ, ◌+◌, ◌||◌, ltb, pos, int_lt, nat_abs, Bool, List, [], ◌∷◌, ◌++◌, Option, None, Some, Result, Ok, Err, if◌then◌else◌, ⊤}
 use Rattle.std.specs.List.{list_any}
 use Rattle.std.specs.Str.{bytes_eq}
-use Rattle.toml.specs.Data.{Data, Items, no_items, item, Members, no_members, member, get_member, as_integer, as_str, as_array}
+use Rattle.toml.specs.Data.{Data, Items, no_items, item, Members, no_members, member, get_member, as_integer, as_bool, as_str, as_array}
 use Rattle.scenario_toml.specs.declared.fault.ScenarioFault.{ScenarioFault}
 use Rattle.scenario_toml.specs.declared.fault.ScenarioFault.TheVariants.{Missing, WrongKind, Unknown, Range, Name}
 use Rattle.scenario_toml.specs.Faults.{and_then}
@@ -32,6 +32,15 @@ number_or key rule (Some d) = number key rule.least rule.most (as_integer d)
 abbrev pub number_in : List ℕ → Members → NumberRule → Result ℕ ScenarioFault
 number_in path table rule = number_or (path ++ rule.name) rule (get_member rule.name table)
 
+-- such a number, and none where it is absent
+abbrev pub optional_number : List ℕ → NumberRule → Option Data → Result (Option ℕ) ScenarioFault
+optional_number key rule None = Ok None
+optional_number key rule (Some d) = and_then (number key rule.least rule.most (as_integer d)) (λ n. Ok (Some n))
+
+-- the number of a key that may be absent
+abbrev pub optional_number_in : List ℕ → Members → NumberRule → Result (Option ℕ) ScenarioFault
+optional_number_in path table rule = optional_number (path ++ rule.name) rule (get_member rule.name table)
+
 -- what a value is seen as, or that it has another kind
 abbrev pub of_kind : {A : Type 0} → List ℕ → Option A → Result A ScenarioFault
 of_kind key None = Err (WrongKind key)
@@ -41,6 +50,15 @@ of_kind key (Some value) = Ok value
 abbrev pub required : List ℕ → Option Data → Result Data ScenarioFault
 required key None = Err (Missing key)
 required key (Some d) = Ok d
+
+-- a boolean, or what stands for it where it is absent
+abbrev pub boolean_or : List ℕ → Bool → Option Data → Result Bool ScenarioFault
+boolean_or key default None = Ok default
+boolean_or key default (Some d) = of_kind key (as_bool d)
+
+-- the boolean of a key in a table
+abbrev pub boolean_in : List ℕ → Members → List ℕ → Bool → Result Bool ScenarioFault
+boolean_in path table name default = boolean_or (path ++ name) default (get_member name table)
 
 -- a text that has to be there
 abbrev pub text_in : List ℕ → Members → List ℕ → Result (List ℕ) ScenarioFault

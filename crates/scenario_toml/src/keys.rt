@@ -1,4 +1,5 @@
-//! The keys whose values are whole numbers, and how many items a selection can have.
+//! The keys whose values are whole numbers, but for those that one kind of thread has, and how many items a selection
+//! can have.
 
 /// The most items of the key `select`.
 pub(crate) const PICKABLES: u32 = 32;
@@ -12,7 +13,7 @@ pub(crate) struct NumberKey {
     pub(crate) least: i64,
     /// The greatest number.
     pub(crate) most: i64,
-    /// What stands for it where it is absent. None where it has to be there.
+    /// What stands for it where it is absent. None where it has to be there, or nothing stands for it.
     pub(crate) default: Option<u64>,
 }
 
@@ -51,45 +52,30 @@ pub(crate) const LOCKS: NumberKey = NumberKey {
     default: Some(0),
 };
 
-// No world has a page cache, a disk or a log yet.
 pub(crate) const FRAMES: NumberKey = NumberKey {
     name: "frames",
     least: 0,
-    most: 0,
+    most: surw_base::FRAMES as i64,
     default: Some(0),
 };
 
 pub(crate) const PAGES: NumberKey = NumberKey {
     name: "pages",
     least: 0,
-    most: 0,
+    most: surw_base::PAGES as i64,
     default: Some(0),
 };
 
 pub(crate) const SLOTS: NumberKey = NumberKey {
     name: "slots",
     least: 0,
-    most: 0,
+    most: surw_base::SLOTS as i64,
     default: Some(0),
 };
 
-pub(crate) const TIMES: NumberKey = NumberKey {
-    name: "times",
-    least: 1,
-    most: surw_base::TIMES as i64,
-    default: Some(1),
-};
-
-pub(crate) const CELL: NumberKey = NumberKey {
-    name: "cell",
+pub(crate) const PAGE: NumberKey = NumberKey {
+    name: "page",
     least: 0,
-    most: surw_base::CELLS as i64 - 1,
+    most: surw_base::PAGES as i64 - 1,
     default: None,
-};
-
-pub(crate) const TRIES: NumberKey = NumberKey {
-    name: "tries",
-    least: 1,
-    most: surw_base::TIMES as i64,
-    default: Some(1),
 };

@@ -8,7 +8,6 @@ mod entries;
 mod fault;
 mod key_name;
 mod keys;
-mod kind;
 mod name_text;
 mod planning;
 mod read;

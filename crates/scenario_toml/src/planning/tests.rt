@@ -195,13 +195,24 @@ fn events(routine: &mut AnyRoutine) -> u64 {
 }
 
 #[test]
-fn threads_without_times_and_tries(rt: HostRuntime) -> Result<(), Fail> {
+fn threads_of_each_kind_with_what_stands_for_absent_keys(rt: HostRuntime) -> Result<(), Fail> {
     let file = b"[[thread]]
 kind = 'steps'
 lines = ['oldest']
 [[thread]]
 kind = 'adder'
 cell = 0
+[[thread]]
+kind = 'cache_user'
+page = 0
+expect = 0
+[[thread]]
+kind = 'flusher'
+rounds = 1
+[[thread]]
+kind = 'log_writer'
+page = 0
+value = 0
 "
         .as_slice();
     let scenario = taken(rt.alloc(), file)?;
@@ -210,6 +221,6 @@ cell = 0
     for routine in &mut plan.routines {
         each.push(events(routine))?;
     }
-    assert_eq!(rt; each.as_slice(), [1, 2].as_slice());
+    assert_eq!(rt; each.as_slice(), [1, 2, 3, 4, 4].as_slice());
     Ok(())
 }

@@ -232,15 +232,19 @@ locks = 8 => taken
 locks = 9; cells = 65 => range world.cells 65 0 64
 locks = 9 => range world.locks 9 0 8
 frames = [] => wrong_kind world.frames
-frames = -1 => range world.frames -1 0 0
-frames = 1 => range world.frames 1 0 0
+frames = -1 => range world.frames -1 0 64
+frames = 65; locks = 9 => range world.locks 9 0 8
+frames = 65 => range world.frames 65 0 64
 pages = {} => wrong_kind world.pages
-pages = -1 => range world.pages -1 0 0
-pages = 1 => range world.pages 1 0 0
+pages = -1 => range world.pages -1 0 256
+pages = 257; frames = 65 => range world.frames 65 0 64
+pages = 257 => range world.pages 257 0 256
 slots = 1.5 => wrong_kind world.slots
-slots = -1 => range world.slots -1 0 0
-slots = 1 => range world.slots 1 0 0
+slots = -1 => range world.slots -1 0 4096
+slots = 4097; pages = 257 => range world.pages 257 0 256
+slots = 4097 => range world.slots 4097 0 4096
 frames = 0; pages = 0; slots = 0 => taken
+frames = 64; pages = 256; slots = 4096 => taken
 ";
 
 #[test]
@@ -250,11 +254,13 @@ fn faults_of_the_world(rt: HostRuntime) -> Result<(), Fail> {
 
 const KIND: &str = "cell = 0 => missing thread.1.kind
 kind = 1 => wrong_kind thread.1.kind
-kind = 'flusher' => name thread.1.kind flusher
-kind = 'cache_user' => name thread.1.kind cache_user
-kind = 'log_writer' => name thread.1.kind log_writer
+kind = 'writer' => name thread.1.kind writer
+kind = 'Flusher' => name thread.1.kind Flusher
 kind = 'steps'; zz = 1; cell = 1 => unknown thread.1.cell
 kind = 'adder'; lines = [] => unknown thread.1.lines
+kind = 'cache_user'; value = 0 => unknown thread.1.value
+kind = 'flusher'; page = 0 => unknown thread.1.page
+kind = 'log_writer'; expect = 0 => unknown thread.1.expect
 ";
 
 #[test]
@@ -298,6 +304,61 @@ cell = 0; tries = 4097 => range thread.1.tries 4097 1 4096
 fn faults_of_a_thread_that_adds(rt: HostRuntime) -> Result<(), Fail> {
     let prefix = format!(in rt.alloc(); "{FIRST}kind = 'adder'\n")?;
     assert_answers(&rt, rt.alloc(), prefix.as_str(), ADDER)
+}
+
+const CACHE_USER: &str = "expect = '0' => missing thread.1.page
+page = '0' => wrong_kind thread.1.page
+page = -1 => range thread.1.page -1 0 255
+page = 256 => range thread.1.page 256 0 255
+page = 0; lock = 8 => missing thread.1.expect
+page = 0; expect = true => wrong_kind thread.1.expect
+page = 0; expect = -1; lock = 8 => range thread.1.expect -1 0 9223372036854775807
+page = 0; expect = 0; lock = [] => wrong_kind thread.1.lock
+page = 0; expect = 0; lock = -1 => range thread.1.lock -1 0 7
+page = 0; expect = 0; lock = 8 => range thread.1.lock 8 0 7
+page = 0; expect = 0; lock = 0 => taken
+page = 255; expect = 9223372036854775807; lock = 7 => taken
+page = 0; expect = 0 => taken
+";
+
+#[test]
+fn faults_of_a_thread_that_uses_the_cache(rt: HostRuntime) -> Result<(), Fail> {
+    let prefix = format!(in rt.alloc(); "{FIRST}kind = 'cache_user'\n")?;
+    assert_answers(&rt, rt.alloc(), prefix.as_str(), CACHE_USER)
+}
+
+const FLUSHER: &str = "mark_first = 1 => missing thread.1.rounds
+rounds = 1.0 => wrong_kind thread.1.rounds
+rounds = -1; mark_first = 1 => range thread.1.rounds -1 0 16384
+rounds = 16385 => range thread.1.rounds 16385 0 16384
+rounds = 0; mark_first = 1 => wrong_kind thread.1.mark_first
+rounds = 0; mark_first = 'true' => wrong_kind thread.1.mark_first
+rounds = 0; mark_first = false => taken
+rounds = 16384; mark_first = true => taken
+rounds = 1 => taken
+";
+
+#[test]
+fn faults_of_a_thread_that_flushes(rt: HostRuntime) -> Result<(), Fail> {
+    let prefix = format!(in rt.alloc(); "{FIRST}kind = 'flusher'\n")?;
+    assert_answers(&rt, rt.alloc(), prefix.as_str(), FLUSHER)
+}
+
+const LOG_WRITER: &str = "value = '0' => missing thread.1.page
+page = [] => wrong_kind thread.1.page
+page = -1 => range thread.1.page -1 0 255
+page = 256 => range thread.1.page 256 0 255
+page = 0 => missing thread.1.value
+page = 0; value = 0.0 => wrong_kind thread.1.value
+page = 0; value = -1 => range thread.1.value -1 0 9223372036854775807
+page = 0; value = 0 => taken
+page = 255; value = 9223372036854775807 => taken
+";
+
+#[test]
+fn faults_of_a_thread_that_logs(rt: HostRuntime) -> Result<(), Fail> {
+    let prefix = format!(in rt.alloc(); "{FIRST}kind = 'log_writer'\n")?;
+    assert_answers(&rt, rt.alloc(), prefix.as_str(), LOG_WRITER)
 }
 
 const COUNTS_AND_CELLS: &str = "counts = [1]; thread = [1] => wrong_kind thread.0

@@ -6,7 +6,7 @@ ghost use Rattle.toml.specs.View.{view, items_view, table_view};
 ghost use Rattle.scenario_toml.specs.declared.fault.ScenarioFault.TheVariants.{Name};
 ghost use Rattle.scenario_toml.specs.Faults.{IsFault, IsFaultOf};
 ghost use Rattle.scenario_toml.specs.Rules.{rule_of, IsRule};
-ghost use Rattle.scenario_toml.specs.Values.{number, number_in, number_item, text_in, array, list, first_unknown, only};
+ghost use Rattle.scenario_toml.specs.Values.{number, number_in, number_item, optional_number_in, boolean_in, text_in, array, list, first_unknown, only};
 
 use crate::keys::NumberKey;
 use crate::read::items::{Item, read_items};
@@ -89,6 +89,48 @@ pub(crate) fn number_at(
             Some(default) => Ok(default),
         },
         Some(value) => number(key, value, rule.least, rule.most),
+    }
+}
+
+/// The number of a key that may be absent.
+pub(crate) fn optional_number_at(
+    alloc: Global,
+    path: &[u8],
+    table: &Table,
+    rule: NumberKey,
+) -> Result<Option<u64>, ScenarioFault>
+    requires { IsRule rule }
+    ensures ok { IfOk result (λ n. optional_number_in path.now (table_view table.now) (rule_of rule) ≡ Ok n) }
+    ensures fault { IfErr result (IsFaultOf (optional_number_in path.now (table_view table.now) (rule_of rule))) }
+{
+    match value_at(table, rule.name) {
+        None => Ok(None),
+        Some(value) => {
+            let key = KeyName::new(alloc, path, rule.name)?;
+            Ok(Some(number(key, value, rule.least, rule.most)?))
+        }
+    }
+}
+
+/// The boolean of a key in a table, or the default where it is absent.
+pub(crate) fn boolean_at(
+    alloc: Global,
+    path: &[u8],
+    table: &Table,
+    name: &str,
+    default: bool,
+) -> Result<bool, ScenarioFault>
+    ensures ok { IfOk result (λ found. boolean_in path.now (table_view table.now) name.now default ≡ Ok found) }
+    ensures fault { IfErr result (IsFaultOf (boolean_in path.now (table_view table.now) name.now default)) }
+{
+    match value_at(table, name) {
+        None => Ok(default),
+        Some(value) => match value.as_bool() {
+            Some(found) => Ok(found),
+            None => Err(ScenarioFault::WrongKind {
+                key: KeyName::new(alloc, path, name)?,
+            }),
+        },
     }
 }
 

@@ -1,6 +1,6 @@
 ghost use Rattle.std.specs.Prelude.{IfOk, IfErr, Ok, ◌≡◌, option_map};
 ghost use Rattle.toml.specs.View.{table_view};
-ghost use Rattle.test_world.specs.Size.{IsWithinLimits, HasNoDevices};
+ghost use Rattle.test_world.specs.Size.{IsWithinLimits};
 ghost use Rattle.scenario_toml.specs.Faults.{IsFaultOf};
 ghost use Rattle.scenario_toml.specs.World.{world, world_in};
 
@@ -18,7 +18,6 @@ pub(crate) fn read_world(alloc: Global, table: Option<&Table>) -> Result<WorldSi
     ensures ok { IfOk result (λ size. world (option_map (λ t. table_view t.now) table.entry) ≡ Ok size) }
     ensures fault { IfErr result (IsFaultOf (world (option_map (λ t. table_view t.now) table.entry))) }
     ensures limits { IfOk result IsWithinLimits }
-    ensures no_devices { IfOk result HasNoDevices }
 {
     match table {
         None => Ok(WorldSize {
@@ -38,7 +37,6 @@ fn read_sizes(alloc: Global, table: &Table) -> Result<WorldSize, ScenarioFault>
     ensures ok { IfOk result (λ size. world_in (table_view table.now) ≡ Ok size) }
     ensures fault { IfErr result (IsFaultOf (world_in (table_view table.now))) }
     ensures limits { IfOk result IsWithinLimits }
-    ensures no_devices { IfOk result HasNoDevices }
 {
     only(alloc, b"world.", &WORLD_NAMES, table)?;
     let cells = number_at(alloc, b"world.", table, keys::CELLS)?;

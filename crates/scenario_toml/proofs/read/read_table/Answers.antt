@@ -10,7 +10,6 @@ invariant_of-result c = record {
   steps_some = c.in_ok-settings.ensures.steps.0;
   steps_most = c.in_ok-settings.ensures.steps.1;
   limits = c.in_ok-size.ensures.limits;
-  no_devices = c.in_ok-size.ensures.no_devices;
   threads = c.in_ok-routines.ensures.few;
   counted =
       let many : c.len.result ≡ length c.in_ok-routines.routines.items = grind (arith, common_steps) in
