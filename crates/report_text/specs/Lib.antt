@@ -3,6 +3,7 @@ pub mod Counts
 pub mod LogLines
 pub mod MonitorLines
 pub mod NextLines
+pub mod ProfileText
 pub mod Report
 pub mod StepLines
 pub mod VerdictLine

@@ -1,6 +1,6 @@
-ghost use Rattle.std.specs.Prelude.{◌≡◌, ◌<◌, ◌∷◌, ◌++◌, All, codes, length, option_map, OnOk};
+ghost use Rattle.std.specs.Prelude.{◌≡◌, ◌<◌, ◌++◌, All, codes, length, OnOk};
 ghost use Rattle.std.specs.Fmt.{decimal};
-ghost use Rattle.page_cache.specs.Cache.{held_in, on_disk};
+ghost use Rattle.page_cache.specs.Cache.{held_in};
 ghost use Rattle.surw_base.specs.Lines.{list_line};
 ghost use Rattle.report_text.specs.CacheLines.{frame_item, frames_line, pages_line};
 

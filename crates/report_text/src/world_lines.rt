@@ -1,4 +1,4 @@
-ghost use Rattle.std.specs.Prelude.{◌≡◌, ◌∷◌, ◌++◌, codes, OnOk};
+ghost use Rattle.std.specs.Prelude.{◌≡◌, ◌++◌, codes, OnOk};
 ghost use Rattle.surw_base.specs.Lines.{list_line, number_line};
 ghost use Rattle.report_text.specs.CacheLines.{frames_line, pages_line};
 ghost use Rattle.report_text.specs.LogLines.{slots_line};
