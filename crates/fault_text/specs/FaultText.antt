@@ -6,7 +6,7 @@ use Rattle.surw_base.specs.Lines.{line}
 use Rattle.scenario_toml.specs.declared.fault.ScenarioFault.{ScenarioFault}
 use Rattle.scenario_toml.specs.declared.fault.ScenarioFault.TheVariants.{NotToml, Missing, WrongKind, Unknown, Range, Name, OutOfMemory}
 use Rattle.fault_text.specs.declared.fault.Fault.{Fault}
-use Rattle.fault_text.specs.declared.fault.Fault.TheVariants.{Words, Lines, Read, Length, Large, Miscount, Offsets, Offset, TooLong, Scenario}
+use Rattle.fault_text.specs.declared.fault.Fault.TheVariants.{Words, Lines, Read, Length, Large, Miscount, Offsets, Offset, TooLong, Scenario, ProfileStepLimit, ProfileDeadlock}
 
 -- the line of a word and then texts, each behind a space (32)
 abbrev pub fault_line : List ℕ → List (List ℕ) → List ℕ
@@ -38,3 +38,5 @@ fault_text (Offset thread place kept below) =
     fault_line (codes "fault offset") (decimal thread ∷ decimal place ∷ decimal kept ∷ decimal below ∷ [])
 fault_text (TooLong limit) = fault_line (codes "fault too_long") (decimal limit ∷ [])
 fault_text (Scenario fault) = scenario_fault_text fault
+fault_text ProfileStepLimit = fault_line (codes "fault profile step_limit") []
+fault_text (ProfileDeadlock step) = fault_line (codes "fault profile deadlock") (decimal step ∷ [])

@@ -57,6 +57,12 @@ pub enum Fault {
     },
     /// The file is no scenario, for this cause.
     Scenario(ScenarioFault),
+    /// The run of the profile has as many steps as the scenario allows.
+    ProfileStepLimit,
+    /// No thread of the profile's run can go on after `step` steps.
+    ProfileDeadlock {
+        step: u32,
+    },
 }
 
 const WORDS: &[u8] =
@@ -135,6 +141,12 @@ impl Fault {
                 &[Item::Number(u64::from(*limit))],
             ),
             Fault::Scenario(fault) => put_scenario_line(fault, out),
+            Fault::ProfileStepLimit => put_line(out, b"fault profile step_limit", &[]),
+            Fault::ProfileDeadlock { step } => put_line(
+                out,
+                b"fault profile deadlock",
+                &[Item::Number(u64::from(*step))],
+            ),
         }
     }
 }

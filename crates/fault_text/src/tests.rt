@@ -13,9 +13,6 @@ fn fault_of(alloc: Global, file: &str) -> Result<Fault, AllocError> {
     }
 }
 
-const NO_THREADS: &str =
-    "strategy = 'urw'\ncounts = []\ntapes = {}\nworld = { cells = 65, locks = 0 }\n";
-
 const WORDS_TEXT: &str =
     "fault words\nusage: surw JOB NAME [SAVED] [--strategy S] [--seed N] [--depth N] [--save PATH]\n";
 
@@ -42,6 +39,11 @@ fn each_fault_has_its_line(rt: HostRuntime) -> Result<(), Fail> {
             Fault::TooLong { limit: 1_048_576 },
             "fault too_long 1048576\n",
         ),
+        (Fault::ProfileStepLimit, "fault profile step_limit\n"),
+        (
+            Fault::ProfileDeadlock { step: 2 },
+            "fault profile deadlock 2\n",
+        ),
     ];
     for (fault, line) in rows.iter() {
         let mut out = MemSink::new(rt.alloc(), 100, 7, Vec::new(rt.alloc()))?;
@@ -55,7 +57,7 @@ fn each_fault_has_its_line(rt: HostRuntime) -> Result<(), Fail> {
 fn each_fault_of_a_scenario_has_its_line(rt: HostRuntime) -> Result<(), Fail> {
     let rows = [
         ("= 1", "fault scenario not_toml\n"),
-        ("", "fault scenario missing counts\n"),
+        ("thread = [{}]", "fault scenario missing thread.0.kind\n"),
         (
             "strategy = 'urw'\nseed = '7'",
             "fault scenario wrong_kind seed\n",
@@ -74,7 +76,10 @@ fn each_fault_of_a_scenario_has_its_line(rt: HostRuntime) -> Result<(), Fail> {
             "strategy = 'urw'\nseed = -1",
             "fault scenario range seed -1 0 9223372036854775807\n",
         ),
-        (NO_THREADS, "fault scenario range world.cells 65 0 64\n"),
+        (
+            "world.cells = 65",
+            "fault scenario range world.cells 65 0 64\n",
+        ),
         ("strategy = 'sruw'", "fault scenario name strategy sruw\n"),
     ];
     for (file, line) in rows {

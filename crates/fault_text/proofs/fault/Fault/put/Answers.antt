@@ -24,3 +24,7 @@ returns-in-Offset-clause-all g c =
 
 pub returns-in-TooLong-clause-all : goal.returns-in-TooLong-clause-all
 returns-in-TooLong-clause-all g c = rw (c.in-TooLong.is, sym c.from-in-TooLong.ensures) c.put_line-in-TooLong.ensures.all
+
+pub returns-in-ProfileDeadlock-clause-all : goal.returns-in-ProfileDeadlock-clause-all
+returns-in-ProfileDeadlock-clause-all g c =
+    rw (c.in-ProfileDeadlock.is, sym c.from-in-ProfileDeadlock.ensures) c.put_line-in-ProfileDeadlock.ensures.all
