@@ -1,18 +1,29 @@
-// The job `plan` as an ordinary, fast Rust program, to compare with. It takes scenarios of cells, locks and
-// threads of the kind `steps`, with counts that are given or by profile, and with tapes or a seed. A file that
-// is past this ends with status 3 and no fault line.
+// The job `plan` as an ordinary, fast Rust program, to compare with. It takes scenarios of threads of all kinds but
+// `adder`, with counts that are given or by profile, and with tapes or a seed. A file that is past this ends with
+// status 3 and no fault line.
+#[path = "plan/cache.rs"]
+mod cache;
 #[path = "plan/draws.rs"]
 mod draws;
+#[path = "plan/log.rs"]
+mod log;
 #[path = "plan/reading.rs"]
 mod reading;
 #[path = "plan/report.rs"]
 mod report;
+#[path = "plan/routines.rs"]
+mod routines;
 #[path = "plan/run.rs"]
 mod run;
+#[path = "plan/seeded.rs"]
+mod seeded;
 
+use cache::Cache;
 use draws::{Draws, Streams, Tapes};
+use log::Log;
 use reading::read;
 use report::report;
+use routines::Routine;
 use run::{profile, run};
 use std::io::Write;
 use std::process::exit;
@@ -22,11 +33,34 @@ const STEPS: u64 = 65_536;
 const FILE_LIMIT: usize = 1_048_576;
 const MAX: u64 = u64::MAX;
 
+// The greatest number of a file.
+const MOST: u64 = i64::MAX as u64;
+
 // The strategies. `run` is compiled once for each.
 const URW: u8 = 0;
 const SURW: u8 = 1;
 const PCT: u8 = 2;
 const PLAIN: u8 = 3;
+
+#[derive(Clone, Copy, PartialEq)]
+enum Class {
+    Lock,
+    Cell,
+    Cache,
+    Disk,
+    Log,
+    Check,
+}
+
+// Each class with its text.
+const CLASSES: [(Class, &str); 6] = [
+    (Class::Lock, "lock"),
+    (Class::Cell, "cell"),
+    (Class::Cache, "cache"),
+    (Class::Disk, "disk"),
+    (Class::Log, "log"),
+    (Class::Check, "check"),
+];
 
 #[derive(Clone, Copy, PartialEq)]
 enum Verb {
@@ -36,18 +70,42 @@ enum Verb {
     Store,
     Add,
     SwapIf,
+    Find,
+    Claim,
+    Fill,
+    Read,
+    Write,
+    Oldest,
+    Stamp,
+    Flush,
+    Reserve,
+    Put,
+    Mark,
+    Durable,
     Check,
 }
 
-// Each verb with its text and how many numbers follow it.
-const VERBS: [(Verb, &str, usize); 7] = [
-    (Verb::Acquire, "acquire", 1),
-    (Verb::Release, "release", 1),
-    (Verb::Load, "load", 1),
-    (Verb::Store, "store", 2),
-    (Verb::Add, "add", 2),
-    (Verb::SwapIf, "swap_if", 3),
-    (Verb::Check, "check", 2),
+// Each verb with its text, how many numbers follow it, and its class.
+const VERBS: [(Verb, &str, usize, Class); 19] = [
+    (Verb::Acquire, "acquire", 1, Class::Lock),
+    (Verb::Release, "release", 1, Class::Lock),
+    (Verb::Load, "load", 1, Class::Cell),
+    (Verb::Store, "store", 2, Class::Cell),
+    (Verb::Add, "add", 2, Class::Cell),
+    (Verb::SwapIf, "swap_if", 3, Class::Cell),
+    (Verb::Find, "find", 1, Class::Cache),
+    (Verb::Claim, "claim", 1, Class::Cache),
+    (Verb::Fill, "fill", 2, Class::Disk),
+    (Verb::Read, "read", 1, Class::Cache),
+    (Verb::Write, "write", 3, Class::Cache),
+    (Verb::Oldest, "oldest", 0, Class::Cache),
+    (Verb::Stamp, "stamp", 1, Class::Cache),
+    (Verb::Flush, "flush", 1, Class::Disk),
+    (Verb::Reserve, "reserve", 0, Class::Log),
+    (Verb::Put, "put", 2, Class::Log),
+    (Verb::Mark, "mark", 1, Class::Log),
+    (Verb::Durable, "durable", 0, Class::Log),
+    (Verb::Check, "check", 2, Class::Check),
 ];
 
 #[derive(Clone, Copy)]
@@ -57,6 +115,10 @@ struct Event {
 }
 
 impl Event {
+    fn class(&self) -> Class {
+        VERBS[self.verb as usize].3
+    }
+
     // The lock that must be free for this event.
     fn wants(&self, locks: usize) -> Option<usize> {
         match self.verb {
@@ -66,75 +128,10 @@ impl Event {
     }
 }
 
-#[derive(Clone, Copy)]
-enum Operand {
-    Number(u64),
-    Register(usize),
-}
-
-#[derive(Clone)]
-enum Line {
-    Act { verb: Verb, args: [Operand; 3], into: Option<usize> },
-    Plus { register: usize, by: Operand },
-    Skip { over: usize, register: usize, equal: bool, with: Operand },
-}
-
-#[derive(Clone)]
-struct Routine {
-    lines: Vec<Line>,
-    times: u64,
-    place: usize,
-    registers: [u64; 4],
-}
-
-impl Routine {
-    fn value(&self, operand: Operand) -> u64 {
-        match operand {
-            Operand::Number(number) => number,
-            Operand::Register(register) => self.registers[register],
-        }
-    }
-
-    // Does the lines up to the next event's, and tells that event; None where the routine has ended.
-    fn announce(&mut self) -> Option<Event> {
-        while self.times > 0 {
-            match self.lines.get(self.place) {
-                None => {
-                    self.times -= 1;
-                    self.place = 0;
-                }
-                Some(Line::Act { verb, args, .. }) => {
-                    return Some(Event { verb: *verb, args: args.map(|operand| self.value(operand)) });
-                }
-                Some(Line::Plus { register, by }) => {
-                    self.registers[*register] = self.registers[*register].wrapping_add(self.value(*by));
-                    self.place += 1;
-                }
-                Some(Line::Skip { over, register, equal, with }) => {
-                    let skips = (self.registers[*register] == self.value(*with)) == *equal;
-                    self.place += if skips { over + 1 } else { 1 };
-                }
-            }
-        }
-        None
-    }
-
-    fn take(&mut self, reply: u64) {
-        if let Line::Act { into: Some(register), .. } = self.lines[self.place] {
-            self.registers[register] = reply;
-        }
-        self.place += 1;
-    }
-}
-
 enum Pickable {
     Every,
-    Locks,
-    Cells,
-    Checks,
-    Lock(u64),
-    Cell(u64),
-    Other,
+    Class(Class),
+    Object(Class, u64),
 }
 
 #[derive(Clone, Copy)]
@@ -156,6 +153,9 @@ struct Scenario {
     monitors: Vec<Monitor>,
     cells: usize,
     locks: usize,
+    frames: usize,
+    pages: usize,
+    slots: usize,
     // The selected and the other tape. None: by the seed.
     tapes: Option<(Vec<u64>, Vec<u64>)>,
     routines: Vec<Routine>,
@@ -184,6 +184,8 @@ struct Run {
     announced: Vec<Option<Event>>,
     cells: Vec<u64>,
     holders: Vec<Option<usize>>,
+    cache: Cache,
+    log: Log,
     checks: u64,
     failed: Vec<Option<usize>>,
     bent: u64,

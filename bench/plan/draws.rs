@@ -1,4 +1,5 @@
 // Where draws come from: the tapes of the file, or streams of its seed.
+use super::seeded::Seeded;
 use super::*;
 
 pub trait Draws {
@@ -47,51 +48,6 @@ impl Draws for Tapes<'_> {
     }
 }
 
-// Pcg64, and how many of its draws were bent.
-struct Seeded {
-    state: u128,
-    increment: u128,
-    bent: u64,
-}
-
-impl Seeded {
-    const MULTIPLIER: u128 = 0x2360_ED05_1FC6_5DA4_4385_DF64_9FCC_F645;
-
-    fn new(seed: u64, stream: u64) -> Seeded {
-        let increment = u128::from(stream) << 1 | 1;
-        let mut new = Seeded { state: u128::from(seed).wrapping_add(increment), increment, bent: 0 };
-        new.step();
-        new
-    }
-
-    fn step(&mut self) {
-        self.state = self.state.wrapping_mul(Seeded::MULTIPLIER).wrapping_add(self.increment);
-    }
-
-    fn word(&mut self) -> u64 {
-        self.step();
-        ((self.state >> 64) as u64 ^ self.state as u64).rotate_right((self.state >> 122) as u32)
-    }
-
-    fn below(&mut self, bound: u64) -> u64 {
-        if bound == 1 {
-            return 0;
-        }
-        // 2^64 / bound. It is one more than the quotient of 2^64 - 1 where the bound is a power of two.
-        let share = u64::MAX / bound + u64::from(u64::MAX % bound == bound - 1);
-        let mut word = 0;
-        for _ in 0..16 {
-            word = self.word();
-            // An accepted word is below share * bound.
-            if word / share < bound {
-                return word / share;
-            }
-        }
-        self.bent += 1;
-        word % bound
-    }
-}
-
 // A stream for the selected draws and one for the others.
 pub struct Streams {
     selected: Seeded,
@@ -119,6 +75,6 @@ impl Draws for Streams {
     }
 
     fn bent(&self) -> u64 {
-        self.selected.bent + self.other.bent
+        self.selected.bent() + self.other.bent()
     }
 }

@@ -1,4 +1,5 @@
 // Reads a scenario from the part of TOML that such files hold.
+use super::routines::{CacheUser, Flusher, Line, LogWriter, Operand, Steps};
 use super::*;
 
 fn number(text: &str) -> Option<u64> {
@@ -38,7 +39,7 @@ fn line(text: &str) -> Option<Line> {
             with: operand(with)?,
         }),
         [verb, ref rest @ ..] => {
-            let (verb, _, needed) = *VERBS.iter().find(|(_, text, _)| *text == verb)?;
+            let (verb, _, needed, _) = *VERBS.iter().find(|(_, text, ..)| *text == verb)?;
             let (numbers, into) = match *rest {
                 [ref numbers @ .., "->", into] => (numbers, Some(register(into)?)),
                 _ => (rest, None),
@@ -57,17 +58,16 @@ fn line(text: &str) -> Option<Line> {
 }
 
 fn pickable(text: &str) -> Option<Pickable> {
-    match text {
-        "all" => Some(Pickable::Every),
-        "lock" => Some(Pickable::Locks),
-        "cell" => Some(Pickable::Cells),
-        "check" => Some(Pickable::Checks),
-        "cache" | "disk" | "log" => Some(Pickable::Other),
-        _ => match text.split_once(' ')? {
-            ("lock", object) => number(object).map(Pickable::Lock),
-            ("cell", object) => number(object).map(Pickable::Cell),
-            _ => None,
-        },
+    if text == "all" {
+        return Some(Pickable::Every);
+    }
+    if let Some((class, _)) = CLASSES.iter().find(|(_, word)| *word == text) {
+        return Some(Pickable::Class(*class));
+    }
+    match text.split_once(' ')? {
+        ("lock", object) => number(object).map(|object| Pickable::Object(Class::Lock, object)),
+        ("cell", object) => number(object).map(|object| Pickable::Object(Class::Cell, object)),
+        _ => None,
     }
 }
 
@@ -84,7 +84,8 @@ fn monitor(text: &str, cells: usize) -> Option<Monitor> {
     }
 }
 
-// The part of TOML that is needed: headers, keys, whole numbers, strings without escapes, and arrays of these.
+// The part of TOML that is needed: headers, keys, whole numbers, truth values, strings without escapes, and
+// arrays of numbers and of strings.
 struct Reader<'a> {
     text: &'a str,
     at: usize,
@@ -92,6 +93,7 @@ struct Reader<'a> {
 
 enum Value<'a> {
     Number(u64),
+    Truth(bool),
     Text(&'a str),
     Numbers(Vec<u64>),
     Texts(Vec<&'a str>),
@@ -101,6 +103,13 @@ impl<'a> Value<'a> {
     fn within(self, least: u64, most: u64) -> Option<u64> {
         match self {
             Value::Number(number) if least <= number && number <= most => Some(number),
+            _ => None,
+        }
+    }
+
+    fn truth(self) -> Option<bool> {
+        match self {
+            Value::Truth(truth) => Some(truth),
             _ => None,
         }
     }
@@ -178,7 +187,7 @@ impl<'a> Reader<'a> {
         }
         self.at += len;
         let leading = len > 1 && digits[0] == b'0';
-        (len > 0 && !leading && value <= i64::MAX as u64).then_some(value)
+        (len > 0 && !leading && value <= MOST).then_some(value)
     }
 
     fn string(&mut self) -> Option<&'a str> {
@@ -223,8 +232,57 @@ impl<'a> Reader<'a> {
                     self.array(Self::number).map(Value::Numbers)
                 }
             }
+            b't' => self.eat_word("true").map(|()| Value::Truth(true)),
+            b'f' => self.eat_word("false").map(|()| Value::Truth(false)),
             _ => self.number().map(Value::Number),
         }
+    }
+}
+
+// The keys of a thread that aren't looked at yet.
+#[derive(Default)]
+struct Keys<'a>(Vec<(&'a str, Value<'a>)>);
+
+impl<'a> Keys<'a> {
+    fn take(&mut self, key: &str) -> Option<Value<'a>> {
+        let at = self.0.iter().position(|(other, _)| *other == key)?;
+        Some(self.0.swap_remove(at).1)
+    }
+
+    fn number(&mut self, key: &str, least: u64, most: u64) -> Option<u64> {
+        self.take(key)?.within(least, most)
+    }
+
+    // What a key that may be left out says. None where it isn't as asked.
+    fn option<T>(&mut self, key: &str, asked: impl Fn(Value<'a>) -> Option<T>) -> Option<Option<T>> {
+        match self.take(key) {
+            None => Some(None),
+            Some(value) => asked(value).map(Some),
+        }
+    }
+
+    fn routine(mut self) -> Option<Routine> {
+        let Some(Value::Text(kind)) = self.take("kind") else { return None };
+        let routine = match kind {
+            "steps" => {
+                let lines = self.take("lines")?.texts(256)?.into_iter().map(line).collect::<Option<_>>()?;
+                let times = self.option("times", |value| value.within(1, 4096))?;
+                Routine::Steps(Steps::new(lines, times.unwrap_or(1)))
+            }
+            "cache_user" => {
+                let lock = self.option("lock", |value| value.within(0, 7))?;
+                Routine::CacheUser(CacheUser::new(self.number("page", 0, 255)?, self.number("expect", 0, MOST)?, lock))
+            }
+            "flusher" => {
+                let mark_first = self.option("mark_first", Value::truth)?;
+                Routine::Flusher(Flusher::new(self.number("rounds", 0, 16_384)?, mark_first.unwrap_or(true)))
+            }
+            "log_writer" => {
+                Routine::LogWriter(LogWriter::new(self.number("page", 0, 255)?, self.number("value", 0, MOST)?))
+            }
+            _ => return None,
+        };
+        self.0.is_empty().then_some(routine)
     }
 }
 
@@ -238,9 +296,9 @@ pub fn read(text: &str) -> Option<Scenario> {
     let mut select = vec![Pickable::Every];
     let mut counts = None;
     let mut monitors = Vec::new();
-    let (mut cells, mut locks) = (0, 0);
+    let (mut cells, mut locks, mut frames, mut pages, mut slots) = (0, 0, 0, 0, 0);
     let mut tapes: Option<(Vec<u64>, Vec<u64>)> = None;
-    let mut threads: Vec<(Option<&str>, Option<Vec<Line>>, u64)> = Vec::new();
+    let mut threads: Vec<Keys> = Vec::new();
     let mut table = "";
     loop {
         reader.blank();
@@ -249,7 +307,7 @@ pub fn read(text: &str) -> Option<Scenario> {
         }
         if reader.eat_word("[[thread]]").is_some() {
             table = "thread";
-            threads.push((None, None, 1));
+            threads.push(Keys::default());
         } else if reader.eat_word("[world]").is_some() {
             table = "world";
         } else if reader.eat_word("[tapes]").is_some() {
@@ -268,7 +326,7 @@ pub fn read(text: &str) -> Option<Scenario> {
                     Value::Text(text) => strategy = text,
                     _ => return None,
                 },
-                ("", "seed") => seed = value.within(0, i64::MAX as u64)?,
+                ("", "seed") => seed = value.within(0, MOST)?,
                 ("", "depth") => depth = value.within(1, 16)?,
                 ("", "select") => select = value.texts(32)?.into_iter().map(pickable).collect::<Option<_>>()?,
                 ("", "counts") => match value {
@@ -278,16 +336,12 @@ pub fn read(text: &str) -> Option<Scenario> {
                 ("", "monitors") => monitors = value.texts(16)?,
                 ("world", "cells") => cells = value.within(0, 64)? as usize,
                 ("world", "locks") => locks = value.within(0, 8)? as usize,
+                ("world", "frames") => frames = value.within(0, 64)? as usize,
+                ("world", "pages") => pages = value.within(0, 256)? as usize,
+                ("world", "slots") => slots = value.within(0, 4096)? as usize,
                 ("tapes", "selected") => tapes.get_or_insert_with(Default::default).0 = value.numbers(STEPS, MAX)?,
                 ("tapes", "other") => tapes.get_or_insert_with(Default::default).1 = value.numbers(STEPS, MAX)?,
-                ("thread", "kind") => match value {
-                    Value::Text("steps") => threads.last_mut()?.0 = Some("steps"),
-                    _ => return None,
-                },
-                ("thread", "lines") => {
-                    threads.last_mut()?.1 = Some(value.texts(256)?.into_iter().map(line).collect::<Option<_>>()?);
-                }
-                ("thread", "times") => threads.last_mut()?.2 = value.within(1, 4096)?,
+                ("thread", key) => threads.last_mut()?.0.push((key, value)),
                 _ => return None,
             }
         }
@@ -304,11 +358,22 @@ pub fn read(text: &str) -> Option<Scenario> {
     if threads.len() > THREADS || !counts.as_ref().is_none_or(fits) {
         return None;
     }
-    let mut routines = Vec::with_capacity(threads.len());
-    for (kind, lines, times) in threads {
-        kind?;
-        routines.push(Routine { lines: lines?, times, place: 0, registers: [0; 4] });
-    }
+    let routines = threads.into_iter().map(Keys::routine).collect::<Option<_>>()?;
     let monitors = monitors.into_iter().map(|text| monitor(text, cells)).collect::<Option<_>>()?;
-    Some(Scenario { max_steps, strategy, seed, depth, select, counts, monitors, cells, locks, tapes, routines })
+    Some(Scenario {
+        max_steps,
+        strategy,
+        seed,
+        depth,
+        select,
+        counts,
+        monitors,
+        cells,
+        locks,
+        frames,
+        pages,
+        slots,
+        tapes,
+        routines,
+    })
 }

@@ -1,4 +1,5 @@
 // The text of a run.
+use super::cache::Frame;
 use super::*;
 
 fn push_number(out: &mut Vec<u8>, mut n: u64) {
@@ -28,8 +29,34 @@ fn push_list(out: &mut Vec<u8>, word: &str, numbers: impl IntoIterator<Item = u6
     out.push(b'\n');
 }
 
+// A list of which each item may be missing.
+fn push_options(out: &mut Vec<u8>, word: &str, items: impl Iterator<Item = Option<u64>>) {
+    out.extend_from_slice(word.as_bytes());
+    for item in items {
+        out.push(b' ');
+        match item {
+            Some(number) => push_number(out, number),
+            None => out.push(b'-'),
+        }
+    }
+    out.push(b'\n');
+}
+
+fn push_frames<'a>(out: &mut Vec<u8>, word: &str, frames: impl Iterator<Item = (usize, &'a Frame)>) {
+    out.extend_from_slice(word.as_bytes());
+    for (frame, held) in frames {
+        out.push(b' ');
+        push_number(out, frame as u64);
+        for (sign, number) in [(b':', held.page as u64), (b'/', held.value), (b'/', held.stamp)] {
+            out.push(sign);
+            push_number(out, number);
+        }
+    }
+    out.push(b'\n');
+}
+
 fn push_event(out: &mut Vec<u8>, event: &Event) {
-    let (_, text, numbers) = VERBS[event.verb as usize];
+    let (_, text, numbers, _) = VERBS[event.verb as usize];
     out.extend_from_slice(text.as_bytes());
     for number in &event.args[..numbers] {
         out.push(b' ');
@@ -78,15 +105,20 @@ pub fn report(run: &Run, monitors: &[Monitor]) -> Vec<u8> {
         }
     }
     push_list(&mut out, "cells", run.cells.iter().copied());
-    out.extend_from_slice(b"locks");
-    for holder in &run.holders {
+    push_options(&mut out, "locks", run.holders.iter().map(|holder| holder.map(|thread| thread as u64)));
+    push_list(&mut out, "free", run.cache.free());
+    push_frames(&mut out, "clean", run.cache.clean());
+    push_frames(&mut out, "dirty", run.cache.dirty());
+    out.extend_from_slice(b"pages");
+    for (value, stamp) in &run.cache.disk {
         out.push(b' ');
-        match holder {
-            Some(thread) => push_number(&mut out, *thread as u64),
-            None => out.push(b'-'),
-        }
+        push_number(&mut out, *value);
+        out.push(b'/');
+        push_number(&mut out, *stamp);
     }
-    out.extend_from_slice(b"\nfree\nclean\ndirty\npages\nslots\nmark 0\n");
+    out.push(b'\n');
+    push_options(&mut out, "slots", run.log.reserved.iter().copied());
+    push_list(&mut out, "mark", [run.log.mark]);
     push_list(&mut out, "checks", [run.checks]);
     for (monitor, failed) in monitors.iter().zip(&run.failed) {
         out.extend_from_slice(b"monitor ");

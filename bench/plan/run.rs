@@ -2,17 +2,11 @@
 use super::*;
 
 fn has(select: &[Pickable], event: &Event) -> bool {
-    let lock = matches!(event.verb, Verb::Acquire | Verb::Release);
-    let check = event.verb == Verb::Check;
-    let cell = !lock && !check;
+    let class = event.class();
     select.iter().any(|item| match item {
         Pickable::Every => true,
-        Pickable::Locks => lock,
-        Pickable::Cells => cell,
-        Pickable::Checks => check,
-        Pickable::Lock(object) => lock && event.args[0] == *object,
-        Pickable::Cell(object) => cell && event.args[0] == *object,
-        Pickable::Other => false,
+        Pickable::Class(picked) => *picked == class,
+        Pickable::Object(picked, object) => *picked == class && event.args[0] == *object,
     })
 }
 
@@ -121,11 +115,13 @@ pub fn profile(scenario: &Scenario) -> Result<Vec<u64>, String> {
 
 #[inline(never)]
 pub fn run<const STRATEGY: u8>(scenario: &Scenario, counts: &[u64], draws: &mut impl Draws) -> Run {
-    let Scenario { max_steps, depth, select, monitors, cells, locks, .. } = scenario;
+    let Scenario { max_steps, depth, select, monitors, cells, locks, frames, pages, slots, .. } = scenario;
     let mut routines = scenario.routines.clone();
     let threads = routines.len();
     let mut cells = vec![0u64; *cells];
     let mut holders: Vec<Option<usize>> = vec![None; *locks];
+    let mut cache = Cache::new(*frames, *pages);
+    let mut log = Log::new(*slots);
     let mut checks = 0u64;
     let mut failed: Vec<Option<usize>> = vec![None; monitors.len()];
     let mut journal: Vec<Entry> = Vec::with_capacity(*max_steps as usize);
@@ -263,6 +259,18 @@ pub fn run<const STRATEGY: u8>(scenario: &Scenario, counts: &[u64], draws: &mut 
                 }
                 before
             }),
+            Verb::Find => cache.find(a),
+            Verb::Claim => cache.claim(a),
+            Verb::Fill => cache.fill(a, b),
+            Verb::Read => cache.read(a),
+            Verb::Write => cache.write(a, b, c),
+            Verb::Oldest => cache.oldest(),
+            Verb::Stamp => cache.stamp(a),
+            Verb::Flush => cache.flush(a),
+            Verb::Reserve => log.reserve(),
+            Verb::Put => log.put(a, b),
+            Verb::Mark => log.mark(a),
+            Verb::Durable => log.mark,
             Verb::Check => {
                 if a == b {
                     0
@@ -275,7 +283,14 @@ pub fn run<const STRATEGY: u8>(scenario: &Scenario, counts: &[u64], draws: &mut 
         let chosen = STRATEGY == URW || choosing & bit != 0;
         journal.push(Entry { thread: thread as u8, chosen, forced, event, reply });
         for (monitor, failed) in monitors.iter().zip(&mut failed) {
-            if matches!(monitor, Monitor::Expect) && checks > 0 && failed.is_none() {
+            let fails = match monitor {
+                // The mark never falls, so until this has failed only the stamp of the last flush can be above it.
+                Monitor::WriteAhead => cache.flushed > log.mark,
+                Monitor::LogWhole => log.whole < log.mark,
+                Monitor::Expect => checks > 0,
+                Monitor::CellEnd { .. } => false,
+            };
+            if fails && failed.is_none() {
                 *failed = Some(step + 1);
             }
         }
@@ -328,5 +343,5 @@ pub fn run<const STRATEGY: u8>(scenario: &Scenario, counts: &[u64], draws: &mut 
             }
         }
     }
-    Run { verdict, journal, announced, cells, holders, checks, failed, bent: draws.bent() }
+    Run { verdict, journal, announced, cells, holders, cache, log, checks, failed, bent: draws.bent() }
 }
