@@ -1,8 +1,14 @@
 pub mod OneAnswer
+pub mod OneCounts
 pub mod OneDraws
 pub mod OneFile
 pub mod OneOrder
 pub mod OnePlan
+pub mod OneProfile
+pub mod OneProfileAnswer
+pub mod OneScenario
+pub mod OneScript
+pub mod ProfileStops
 pub mod Reports
 pub mod Safe
 pub mod Stops

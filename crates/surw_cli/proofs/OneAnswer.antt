@@ -1,37 +1,45 @@
 -- A command line has one answer.
 use Rattle.std.proofs.Common.{◌≡◌, ℕ, List, [], get_or, refl, ap, sym, subst, ◌∙◌, arith}
 use Rattle.surw_base.specs.declared.limits.TheConstants.{FILE_LIMIT}
-use Rattle.surw_cli.specs.Answer.{Answer}
 use Rattle.surw_cli.specs.Ask.{Ask, AsksFor, job_word}
-use Rattle.surw_cli.specs.CommandAnswer.{Coming, TellsAll, IsAnswer, NoJob, OfJob, IsAskAnswer, OneAnswer, answer_of_job}
+use Rattle.surw_cli.specs.CommandAnswer.{NoJob, OfJob, IsAskAnswer, OneAnswer, answer_of_job}
 use Rattle.surw_cli.specs.declared.ask.Job.{Job}
-use Rattle.surw_cli.specs.declared.ask.Job.TheVariants.{Order, Draws, Plan}
+use Rattle.surw_cli.specs.declared.ask.Job.TheVariants.{Order, Draws, Plan, Profile}
 use Rattle.surw_cli.proofs.OneDraws.{draws-one}
 use Rattle.surw_cli.proofs.OneFile.{MakesOne, file-one}
 use Rattle.surw_cli.proofs.OneOrder.{order-one}
 use Rattle.surw_cli.proofs.OnePlan.{plan-one}
+use Rattle.surw_cli.proofs.OneProfileAnswer.{profile-answer-one}
 
 -- a job makes one answer of the bytes of its file
 job-one : (job : Job) → MakesOne (answer_of_job job)
 job-one Order bytes answer other is twin = order-one bytes answer other is twin
 job-one Draws bytes answer other is twin = draws-one bytes answer other is twin
 job-one Plan bytes answer other is twin = plan-one bytes answer other is twin
+job-one Profile bytes answer other is twin = profile-answer-one bytes answer other is twin
 
--- two words that begin with one letter
-first-same : (word other : List ℕ) → word ≡ other → get_or word 0 0 ≡ get_or other 0 0
-first-same word other same = ap (λ (w : List ℕ). get_or w 0 0) same
+-- two words that are one have one letter at each place
+letter-same : (place : ℕ) (word other : List ℕ) → word ≡ other → get_or word place 0 ≡ get_or other place 0
+letter-same place word other same = ap (λ (w : List ℕ). get_or w place 0) same
 
 -- two jobs with one word are one
 word-one : (job other : Job) → job_word job ≡ job_word other → other ≡ job
 word-one Order Order same = refl
-word-one Order Draws same = absurd (omega (arith, first-same (job_word Order) (job_word Draws) same))
-word-one Order Plan same = absurd (omega (arith, first-same (job_word Order) (job_word Plan) same))
-word-one Draws Order same = absurd (omega (arith, first-same (job_word Draws) (job_word Order) same))
+word-one Order Draws same = absurd (omega (arith, letter-same 0 (job_word Order) (job_word Draws) same))
+word-one Order Plan same = absurd (omega (arith, letter-same 0 (job_word Order) (job_word Plan) same))
+word-one Order Profile same = absurd (omega (arith, letter-same 0 (job_word Order) (job_word Profile) same))
+word-one Draws Order same = absurd (omega (arith, letter-same 0 (job_word Draws) (job_word Order) same))
 word-one Draws Draws same = refl
-word-one Draws Plan same = absurd (omega (arith, first-same (job_word Draws) (job_word Plan) same))
-word-one Plan Order same = absurd (omega (arith, first-same (job_word Plan) (job_word Order) same))
-word-one Plan Draws same = absurd (omega (arith, first-same (job_word Plan) (job_word Draws) same))
+word-one Draws Plan same = absurd (omega (arith, letter-same 0 (job_word Draws) (job_word Plan) same))
+word-one Draws Profile same = absurd (omega (arith, letter-same 0 (job_word Draws) (job_word Profile) same))
+word-one Plan Order same = absurd (omega (arith, letter-same 0 (job_word Plan) (job_word Order) same))
+word-one Plan Draws same = absurd (omega (arith, letter-same 0 (job_word Plan) (job_word Draws) same))
 word-one Plan Plan same = refl
+word-one Plan Profile same = absurd (omega (arith, letter-same 1 (job_word Plan) (job_word Profile) same))
+word-one Profile Order same = absurd (omega (arith, letter-same 0 (job_word Profile) (job_word Order) same))
+word-one Profile Draws same = absurd (omega (arith, letter-same 0 (job_word Profile) (job_word Draws) same))
+word-one Profile Plan same = absurd (omega (arith, letter-same 1 (job_word Profile) (job_word Plan) same))
+word-one Profile Profile same = refl
 
 -- the words ask for one thing
 ask-one : (jobs : List Job) (words : List (List ℕ)) (ask other : Ask) → AsksFor jobs words ask → AsksFor jobs words other → other ≡ ask

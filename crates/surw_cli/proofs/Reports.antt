@@ -11,7 +11,7 @@ use Rattle.surw_cli.specs.Ending.{Call, Ends, IsCalm, WasReported, Wrote}
 use Rattle.surw_cli.specs.FileAnswer.{IsFileAnswer, Absent, Long, Held}
 use Rattle.surw_cli.specs.Planned.{status_by}
 use Rattle.surw_cli.specs.declared.ask.Job.{Job}
-use Rattle.surw_cli.specs.declared.ask.Job.TheVariants.{Order, Draws, Plan}
+use Rattle.surw_cli.specs.declared.ask.Job.TheVariants.{Order, Draws, Plan, Profile}
 use Rattle.surw_cli.specs.declared.status.Status.{Status}
 use Rattle.surw_cli.specs.declared.status.Status.TheVariants.{Done, Failing, WrongCount, Asked, StepLimit, Draw}
 
@@ -48,6 +48,8 @@ reportable-job Draws bytes Done text made = tt
 reportable-job Draws bytes _ text made = absurd made
 reportable-job Plan bytes status text made =
     subst (λ s. IsReportable s) (sym made.ends) (reportable-run made.outcome.verdict (list_any is_some made.outcome.failed))
+reportable-job Profile bytes Done text made = tt
+reportable-job Profile bytes _ text made = absurd made
 
 reportable-file : (job : Job) (coming : Option Entry) (status : Status) (text : List ℕ) → IsFileAnswer FILE_LIMIT (answer_of_job job) coming (Report status text)
     → IsReportable status

@@ -3,7 +3,7 @@ use Rattle.std.proofs.Common.{Result, Ok, Err, OnOk, OnErr, inl, inr, ⊎_elim, 
 use Rattle.std.proofs.lemmas.Bool.{cases_lt}
 use Rattle.fault_text.specs.FaultText.{fault_text}
 use Rattle.fault_text.specs.declared.fault.Fault.{Fault}
-use Rattle.fault_text.specs.declared.fault.Fault.TheVariants.{Words, Lines, Read, Length, Large, Miscount, Offsets, Offset, TooLong, Scenario}
+use Rattle.fault_text.specs.declared.fault.Fault.TheVariants.{Words, Lines, Read, Length, Large, Miscount, Offsets, Offset, TooLong, Scenario, ProfileStepLimit, ProfileDeadlock}
 use Rattle.order_text.specs.DrawsFile.{IsOtherDraws}
 use Rattle.order_text.specs.FileFault.{IsOtherFile}
 use Rattle.order_text.specs.OrderFile.{IsOtherOrder}
@@ -25,7 +25,7 @@ use Rattle.surw_cli.specs.OrderAnswer.{order_answer}
 use Rattle.surw_cli.specs.Status.{status_of}
 use Rattle.surw_cli.specs.Stop.{IsStop, IsStopOf, stop_of_fetch, stop_of_file}
 use Rattle.surw_cli.specs.declared.ask.Job.{Job}
-use Rattle.surw_cli.specs.declared.ask.Job.TheVariants.{Order, Draws, Plan}
+use Rattle.surw_cli.specs.declared.ask.Job.TheVariants.{Order, Draws, Plan, Profile}
 use Rattle.surw_cli.specs.declared.stop.Stop.{Stop}
 use Rattle.surw_cli.specs.declared.stop.Stop.TheVariants.{Refused, OutOfMemory}
 
@@ -43,6 +43,7 @@ made-read : (job : Job) (bytes : List ℕ) → answer_of_job job bytes (Refusal 
 made-read Order bytes made = made
 made-read Draws bytes made = made
 made-read Plan bytes made = made
+made-read Profile bytes made = made
 
 -- a job that stopped over the bytes of its file stopped so
 pub asked-stop : (jobs : List Job) (words : List (List ℕ)) (coming : Coming) (before now : ℕ) (ask : Ask) (bytes : List ℕ) (stop : Stop)
@@ -69,6 +70,8 @@ refusal-ends call (Offsets thread counted seen) stop told = inr (was-refused cal
 refusal-ends call (Offset thread place kept below) stop told = inr (was-refused call (Offset thread place kept below) stop told)
 refusal-ends call (TooLong limit) stop told = was-refused call (TooLong limit) stop told
 refusal-ends call (Scenario cause) stop told = was-refused call (Scenario cause) stop told
+refusal-ends call ProfileStepLimit stop told = was-refused call ProfileStepLimit stop told
+refusal-ends call (ProfileDeadlock step) stop told = was-refused call (ProfileDeadlock step) stop told
 
 -- what a writer of a text leaves: all of it, or a prefix where the sink failed
 pub told : {A E : Type 0} (call : Call) (text : List ℕ) (result : Result A E) → OnOk result (call.taken_now ≡ with_end call.taken_before text)

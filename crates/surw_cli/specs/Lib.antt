@@ -2,11 +2,15 @@ pub mod Answer
 pub mod Ask
 pub mod CommandAnswer
 pub mod CommandLine
+pub mod Counts
 pub mod DrawsAnswer
 pub mod Ending
 pub mod FileAnswer
 pub mod OrderAnswer
 pub mod PlanAnswer
 pub mod Planned
+pub mod ProfileAnswer
+pub mod Profiled
+pub mod Script
 pub mod Status
 pub mod Stop

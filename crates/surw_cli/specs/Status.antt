@@ -32,3 +32,5 @@ status_of (fault.Offsets thread counted seen) = Draw
 status_of (fault.Offset thread place kept below) = Draw
 status_of (fault.TooLong limit) = TooLong
 status_of (fault.Scenario cause) = Form
+status_of fault.ProfileStepLimit = Form
+status_of (fault.ProfileDeadlock step) = Form

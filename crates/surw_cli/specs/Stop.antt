@@ -4,9 +4,11 @@ use Rattle.draw_split.specs.declared.joining.JoinFault.{JoinFault}
 use Rattle.draw_split.specs.declared.joining.JoinFault.TheVariants as join
 use Rattle.draw_split.specs.declared.naming.SplitFault.{SplitFault}
 use Rattle.draw_split.specs.declared.naming.SplitFault.TheVariants as split
-use Rattle.fault_text.specs.declared.fault.Fault.TheVariants.{Lines, Read, Length, Large, Miscount, Offsets, Offset, TooLong, Scenario}
+use Rattle.fault_text.specs.declared.fault.Fault.TheVariants.{Lines, Read, Length, Large, Miscount, Offsets, Offset, TooLong, Scenario, ProfileStepLimit, ProfileDeadlock}
 use Rattle.order_text.specs.declared.file_fault.FileFault.{FileFault}
 use Rattle.order_text.specs.declared.file_fault.FileFault.TheVariants as file
+use Rattle.pure_run.specs.declared.profiling.ProfileFault.{ProfileFault}
+use Rattle.pure_run.specs.declared.profiling.ProfileFault.TheVariants as profile
 use Rattle.scenario_toml.specs.declared.fault.ScenarioFault.{ScenarioFault}
 use Rattle.scenario_toml.specs.declared.fault.ScenarioFault.TheVariants as scenario
 use Rattle.surw_base.specs.declared.limits.TheConstants.{FILE_LIMIT}
@@ -33,6 +35,11 @@ stop_of_file file.OutOfMemory = OutOfMemory
 abbrev pub stop_of_scenario : ScenarioFault → Stop
 stop_of_scenario scenario.OutOfMemory = OutOfMemory
 stop_of_scenario fault = Refused (Scenario fault)
+
+abbrev pub stop_of_profile : ProfileFault → Stop
+stop_of_profile profile.StepLimit = Refused ProfileStepLimit
+stop_of_profile (profile.Deadlock step) = Refused (ProfileDeadlock step)
+stop_of_profile profile.OutOfMemory = OutOfMemory
 
 abbrev pub stop_of_split : SplitFault → Stop
 stop_of_split (split.Length kept needed) = Refused (Length kept needed)

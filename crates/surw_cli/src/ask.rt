@@ -11,6 +11,8 @@ pub(crate) enum Job {
     Draws,
     /// The run of a scenario.
     Plan,
+    /// The profile of a scenario.
+    Profile,
 }
 
 impl Job {
@@ -22,6 +24,7 @@ impl Job {
             Job::Order => "order",
             Job::Draws => "draws",
             Job::Plan => "plan",
+            Job::Profile => "profile",
         }
     }
 }

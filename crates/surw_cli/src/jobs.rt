@@ -7,14 +7,18 @@ ghost use Rattle.surw_cli.specs.Stop.{IsStop, IsStopOf};
 ghost use Rattle.surw_cli.specs.declared.stop.Stop.TheVariants.{Refused};
 ghost use Rattle.fault_text.specs.declared.fault.Fault.TheVariants.{Words};
 
+mod choice;
+mod counts;
 mod draws;
 mod order;
 mod plan;
+mod profile;
 
 use crate::ask::{Job, read_ask};
 use crate::jobs::draws::report_of_draws;
 use crate::jobs::order::report_of_order;
 use crate::jobs::plan::report_of_plan;
+use crate::jobs::profile::report_of_profile;
 use crate::report::Report;
 use crate::stop::Stop;
 use fault_text::Fault;
@@ -57,5 +61,6 @@ fn report_of_bytes(alloc: Global, job: Job, bytes: &[u8]) -> Result<Report, Stop
         Job::Order => report_of_order(alloc, bytes),
         Job::Draws => report_of_draws(alloc, bytes),
         Job::Plan => report_of_plan(alloc, bytes),
+        Job::Profile => report_of_profile(alloc, bytes),
     }
 }

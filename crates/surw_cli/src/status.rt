@@ -42,6 +42,7 @@ impl Status {
         match fault {
             Fault::Words => Status::Words,
             Fault::Lines { .. } | Fault::Scenario(_) => Status::Form,
+            Fault::ProfileStepLimit | Fault::ProfileDeadlock { .. } => Status::Form,
             Fault::Read => Status::ReadFault,
             Fault::Length { .. } | Fault::Large { .. } => Status::Draw,
             Fault::Miscount { .. } | Fault::Offsets { .. } | Fault::Offset { .. } => Status::Draw,

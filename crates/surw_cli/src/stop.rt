@@ -1,6 +1,7 @@
 use draw_split::{JoinFault, SplitFault};
 use fault_text::Fault;
 use order_text::FileFault;
+use pure_run::ProfileFault;
 use scenario_toml::ScenarioFault;
 use surw_base::{FILE_LIMIT, OutOfMemory};
 use surw_io::FetchFault;
@@ -53,6 +54,21 @@ impl From<ScenarioFault> for Stop {
         match fault {
             ScenarioFault::OutOfMemory => Stop::OutOfMemory,
             fault => Stop::Refused(Fault::Scenario(fault)),
+        }
+    }
+}
+
+impl From<ProfileFault> for Stop {
+    ghost use Rattle.std.specs.Prelude.{◌≡◌};
+    ghost use Rattle.surw_cli.specs.Stop.{stop_of_profile};
+
+    ghost from_gives = { λ fault stop. stop ≡ stop_of_profile fault };
+
+    fn from(fault: ProfileFault) -> Self {
+        match fault {
+            ProfileFault::StepLimit => Stop::Refused(Fault::ProfileStepLimit),
+            ProfileFault::Deadlock { step } => Stop::Refused(Fault::ProfileDeadlock { step }),
+            ProfileFault::OutOfMemory => Stop::OutOfMemory,
         }
     }
 }

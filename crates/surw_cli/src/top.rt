@@ -10,8 +10,8 @@ use crate::stop::Stop;
 use std::alloc::Global;
 use surw_io::{Shelf, Sink, put_all};
 
-/// Does the job that the words after the program's name ask for, one of `order`, `draws` and `plan`, and
-/// always returns. The report, or a refusal's line, goes to `out`.
+/// Does the job that the words after the program's name ask for, one of `order`, `draws`, `plan` and `profile`,
+/// and always returns. The report, or a refusal's line, goes to `out`.
 ///
 /// The status and what was written are the answer to the words and the files, unless a device failed:
 /// `ReadFault` comes only where the shelf's count of faults rose or there is no such file, `WriteFault` only
@@ -38,7 +38,7 @@ pub fn surw_plain<F: Shelf, O: Sink>(
         → F.opens shelf.new ≡ one_more (F.opens shelf.old) }
     ensures unopened { AsksForNothing plain_jobs (map string_bytes words.now) → F.opens shelf.new ≡ F.opens shelf.old }
 {
-    let jobs = [Job::Order, Job::Draws, Job::Plan];
+    let jobs = [Job::Order, Job::Draws, Job::Plan, Job::Profile];
     match report_of(alloc, &jobs, words, shelf) {
         Ok(report) => match put_all(out, report.text.as_slice()) {
             Ok(()) => report.status,

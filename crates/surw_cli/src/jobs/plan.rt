@@ -1,25 +1,18 @@
-ghost use Rattle.std.specs.Prelude.{◌≡◌, ◌≤◌, IfOk, IfErr, length};
+ghost use Rattle.std.specs.Prelude.{◌≡◌, IfOk, IfErr};
 ghost use Rattle.surw_cli.specs.Answer as answer;
 ghost use Rattle.surw_cli.specs.PlanAnswer.{plan_answer};
-ghost use Rattle.surw_cli.specs.Planned.{counts_by, status_of_run};
+ghost use Rattle.surw_cli.specs.Planned.{status_of_run};
 ghost use Rattle.surw_cli.specs.Stop.{IsStopOf};
 
+use crate::jobs::choice::NO_CHOICE;
+use crate::jobs::counts::counts_of;
 use crate::report::Report;
 use crate::status::Status;
 use crate::stop::Stop;
-use draw_split::Weights;
 use pure_run::{Run, Verdict, run_inline};
 use report_text::report;
-use scenario_toml::{Choice, Scenario, Strategy, read_scenario};
+use scenario_toml::read_scenario;
 use std::alloc::Global;
-use surw_base::THREADS;
-
-// Nothing in place of the file's values.
-const NO_CHOICE: Choice = Choice {
-    strategy: None,
-    seed: None,
-    depth: None,
-};
 
 /// The report of the job `plan` over the bytes of its file: the run of its scenario, made on this thread.
 pub(crate) fn report_of_plan(alloc: Global, bytes: &[u8]) -> Result<Report, Stop>
@@ -27,7 +20,7 @@ pub(crate) fn report_of_plan(alloc: Global, bytes: &[u8]) -> Result<Report, Stop
     ensures stopped { IfErr result (IsStopOf (plan_answer bytes.now)) }
 {
     let scenario = read_scenario(alloc, bytes)?;
-    let counts = counts(&scenario);
+    let counts = counts_of(alloc, &scenario)?;
     let plan = scenario.plan(alloc, &NO_CHOICE, &counts)?;
     let run = run_inline(alloc, &plan)?;
     let text = report(alloc, &run)?;
@@ -35,18 +28,6 @@ pub(crate) fn report_of_plan(alloc: Global, bytes: &[u8]) -> Result<Report, Stop
         status: status_of(&run),
         text,
     })
-}
-
-// The counts that the run of a scenario is made with: under the plain strategy, which looks at none, zeros.
-fn counts(scenario: &Scenario) -> Weights
-    ensures { result ≡ counts_by scenario.now.strategy scenario.now }
-{
-    match scenario.strategy(&NO_CHOICE) {
-        Strategy::Urw | Strategy::Surw | Strategy::Pct => {
-            Weights::new(scenario.counts().as_slice())
-        }
-        Strategy::Plain => Weights::new(&[0; THREADS][..scenario.threads()]),
-    }
 }
 
 // The status that a run ends with.

@@ -1,5 +1,11 @@
 use Rattle.std.proofs.lemmas.Result.{err_from_is_err_and}
+use Rattle.surw_cli.proofs.ProfileStops.{plan-stop}
 use Rattle.surw_cli.proofs.jobs.plan.report_of_plan.Goals as goal
+
+pub returns-in_err-counts-clause-stopped : goal.returns-in_err-counts-clause-stopped
+returns-in_err-counts-clause-stopped c =
+    let p = err_from_is_err_and c.from_residual-in_err-counts.result c.from_residual-in_err-counts.ensures.1 in
+    rw (p.1, p.2) (plan-stop c.args.bytes.now c.in_ok-scenario.scenario c.in_err-counts.field-0.0 c.in_ok-scenario.ensures.ok c.in_err-counts.ensures.stopped)
 
 pub returns-in_err-text-clause-stopped : goal.returns-in_err-text-clause-stopped
 returns-in_err-text-clause-stopped c =
@@ -12,8 +18,10 @@ returns-clause-report c = record {
   form = c.in_ok-scenario.ensures.ok;
   outcome = c.in_ok-run.run';
   run = record {
+    counts = c.in_ok-counts.counts;
+    counted = c.in_ok-counts.ensures.counts;
     plan = c.in_ok-plan.plan;
-    planned = rw (← c.counts-counts.ensures) c.in_ok-plan.ensures.plan;
+    planned = c.in_ok-plan.ensures.plan;
     run = c.in_ok-run.ensures.run;
     order = c.in_ok-run.ensures.order;
   };

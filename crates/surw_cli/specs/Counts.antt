@@ -1,0 +1,40 @@
+-- The counts that a scenario is run with.
+use Rattle.std.specs.Prelude.{◌≡◌, ℕ, List}
+use Rattle.pure_run.specs.declared.profiling.ProfileFault.{ProfileFault}
+use Rattle.scenario_toml.specs.declared.counts_rule.CountsRule.{CountsRule}
+use Rattle.scenario_toml.specs.declared.counts_rule.CountsRule.TheVariants.{Profile, Given}
+use Rattle.scenario_toml.specs.declared.strategy.Strategy.{Strategy}
+use Rattle.scenario_toml.specs.declared.strategy.Strategy.TheVariants.{Plain, Surw}
+use Rattle.scenario_toml.specs.State.{ScenarioState}
+use Rattle.surw_cli.specs.Profiled.{IsProfileOf, IsUnprofiled, zeros}
+
+-- where the counts come from: the plain strategy looks at none, so under it zeros are given; else the file says
+abbrev pub rule_by : Strategy → ScenarioState → CountsRule
+rule_by Plain scenario = Given (zeros scenario)
+rule_by strategy scenario = scenario.counts
+
+-- what a strategy counts: SURW the selected events, each other strategy all events
+abbrev pub counted_by : Strategy → List ℕ → List ℕ → List ℕ
+counted_by Surw selected all = selected
+counted_by strategy selected all = all
+
+-- the counts are those of the scenario's profile
+pub record AreProfiled (scenario : ScenarioState) (counts : List ℕ) : Type 0 where
+  pub selected : List ℕ
+  pub all : List ℕ
+  pub profile : IsProfileOf scenario selected all
+  pub counted : counts ≡ counted_by scenario.strategy selected all
+
+-- the counts are those that are given, or those of a profile
+abbrev pub AreFrom : CountsRule → ScenarioState → List ℕ → Type 0
+AreFrom (Given given) scenario counts = counts ≡ given
+AreFrom Profile scenario counts = AreProfiled scenario counts
+
+-- the counts that the scenario is run with
+abbrev pub AreCounts : ScenarioState → List ℕ → Type 0
+AreCounts scenario counts = AreFrom (rule_by scenario.strategy scenario) scenario counts
+
+-- the counts are asked of a profile, and there is none for this cause
+pub record IsUncounted (scenario : ScenarioState) (fault : ProfileFault) : Type 0 where
+  pub asked : rule_by scenario.strategy scenario ≡ Profile
+  pub cause : IsUnprofiled scenario fault

@@ -1,0 +1,46 @@
+ghost use Rattle.std.specs.Prelude.{◌≡◌, IfOk, IfErr, length};
+ghost use Rattle.scenario_toml.specs.State.{HasCounts};
+ghost use Rattle.surw_cli.specs.Counts.{rule_by, counted_by, AreCounts, IsUncounted};
+
+use crate::jobs::choice::NO_CHOICE;
+use crate::jobs::profile::{profile_of, zeros};
+use draw_split::Weights;
+use pure_run::{ProfileCounts, ProfileFault};
+use scenario_toml::{CountsRule, Scenario, Strategy};
+use std::alloc::Global;
+
+/// The counts that a scenario is run with, one for each thread. A profile is made only where they are asked of it.
+pub(crate) fn counts_of(alloc: Global, scenario: &Scenario) -> Result<Weights, ProfileFault>
+    ensures counts { IfOk result (λ counts. AreCounts scenario.now counts) }
+    ensures each { IfOk result (λ counts. length counts ≡ length scenario.now.routines) }
+    ensures stopped { IfErr result (IsUncounted scenario.now) }
+{
+    match rule_of(scenario) {
+        CountsRule::Given(counts) => Ok(counts),
+        CountsRule::Profile => {
+            let found = profile_of(alloc, scenario)?;
+            Ok(counted(scenario.strategy(&NO_CHOICE), found))
+        }
+    }
+}
+
+// Where they come from: the plain strategy looks at none, so under it zeros are given.
+fn rule_of(scenario: &Scenario) -> CountsRule
+    ensures same { result ≡ rule_by scenario.now.strategy scenario.now }
+    ensures each { HasCounts result (length scenario.now.routines) }
+{
+    match scenario.strategy(&NO_CHOICE) {
+        Strategy::Urw | Strategy::Surw | Strategy::Pct => scenario.counts(),
+        Strategy::Plain => CountsRule::Given(zeros(scenario)),
+    }
+}
+
+// What a strategy counts: SURW the selected events, each other strategy all events.
+fn counted(strategy: Strategy, found: ProfileCounts) -> Weights
+    ensures { result ≡ counted_by strategy found.selected found.all }
+{
+    match strategy {
+        Strategy::Surw => found.selected,
+        Strategy::Urw | Strategy::Pct | Strategy::Plain => found.all,
+    }
+}
