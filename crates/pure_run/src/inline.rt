@@ -31,8 +31,8 @@ pub fn run_inline<R: Routine, S: Draws, O: Draws>(
     Ok(core.finish())
 }
 
-// Says the first word of each thread.
-fn say_first_words<R: Routine, S: Draws, O: Draws>(core: &mut Core<S, O>, routines: &[R])
+/// Says the first word of each thread of a core that was just opened: what its routine announces.
+pub fn say_first_words<R: Routine, S: Draws, O: Draws>(core: &mut Core<S, O>, routines: &[R])
     requires few { length routines.now ≤ THREADS }
     requires due { core.old.words ≡ replicate (length routines.now) Due }
     ensures { core.new ≡ record core.old { words = said_by R.Routine routines.now } }

@@ -16,7 +16,7 @@ mod word;
 
 pub use core_state::Core;
 pub use history::History;
-pub use inline::run_inline;
+pub use inline::{run_inline, say_first_words};
 pub use next::Next;
 pub use opening::Opening;
 pub use profiling::{PROFILE_STREAM, ProfileCounts, ProfileFault, profile};
