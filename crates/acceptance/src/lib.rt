@@ -10,3 +10,5 @@ mod devices;
 mod draw_lists;
 #[cfg(test)]
 mod lost_update;
+#[cfg(test)]
+mod threads;

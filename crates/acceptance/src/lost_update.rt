@@ -20,7 +20,7 @@ lines = [\"load 0 -> r0\", \"plus r0 1\", \"store 0 r0\"]
 ";
 
 // Its report where both load before one stores: an update is lost.
-const LOST_REPORT: &str = "\
+pub const LOST_REPORT: &str = "\
 verdict ended
 steps 4
 selected 4

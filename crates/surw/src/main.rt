@@ -2,6 +2,7 @@
 //! call.
 #![tactic(auto)]
 
+use gate_core::Bare;
 use std::env::{self, Env};
 use std::io;
 use std::process::ExitCode;
@@ -11,7 +12,7 @@ use surw_io::{FileShelf, StdSink};
 fn main(rt: HostRuntime) -> ExitCode {
     let mut shelf = FileShelf::new(&rt);
     let mut out = StdSink::new(&rt);
-    let status = status_of_words(rt.alloc(), words(&rt), &mut shelf, &mut out);
+    let status = status_of_words(&rt, rt.alloc(), words(&rt), &mut shelf, &mut out, &Bare);
     ExitCode::from(status.code())
 }
 

@@ -1,3 +1,4 @@
+pub mod Comes
 pub mod OneAnswer
 pub mod OneCounts
 pub mod OneDraws
@@ -9,6 +10,7 @@ pub mod OneProfileAnswer
 pub mod OneScenario
 pub mod OneScript
 pub mod ProfileStops
+pub mod Outcomes
 pub mod Reports
 pub mod Safe
 pub mod Stops

@@ -4,7 +4,7 @@ use Rattle.surw_base.specs.declared.limits.TheConstants.{FILE_LIMIT}
 use Rattle.surw_cli.specs.Ask.{Ask, AsksFor, job_word}
 use Rattle.surw_cli.specs.CommandAnswer.{NoJob, OfJob, IsAskAnswer, OneAnswer, answer_of_job}
 use Rattle.surw_cli.specs.declared.ask.Job.{Job}
-use Rattle.surw_cli.specs.declared.ask.Job.TheVariants.{Order, Draws, Plan, Profile}
+use Rattle.surw_cli.specs.declared.ask.Job.TheVariants.{Order, Draws, Plan, Profile, Run}
 use Rattle.surw_cli.proofs.OneDraws.{draws-one}
 use Rattle.surw_cli.proofs.OneFile.{MakesOne, file-one}
 use Rattle.surw_cli.proofs.OneOrder.{order-one}
@@ -17,6 +17,7 @@ job-one Order bytes answer other is twin = order-one bytes answer other is twin
 job-one Draws bytes answer other is twin = draws-one bytes answer other is twin
 job-one Plan bytes answer other is twin = plan-one bytes answer other is twin
 job-one Profile bytes answer other is twin = profile-answer-one bytes answer other is twin
+job-one Run bytes answer other is twin = plan-one bytes answer other is twin
 
 -- two words that are one have one letter at each place
 letter-same : (place : ℕ) (word other : List ℕ) → word ≡ other → get_or word place 0 ≡ get_or other place 0
@@ -40,6 +41,15 @@ word-one Profile Order same = absurd (omega (arith, letter-same 0 (job_word Prof
 word-one Profile Draws same = absurd (omega (arith, letter-same 0 (job_word Profile) (job_word Draws) same))
 word-one Profile Plan same = absurd (omega (arith, letter-same 1 (job_word Profile) (job_word Plan) same))
 word-one Profile Profile same = refl
+word-one Run Order same = absurd (omega (arith, letter-same 0 (job_word Run) (job_word Order) same))
+word-one Run Draws same = absurd (omega (arith, letter-same 0 (job_word Run) (job_word Draws) same))
+word-one Run Plan same = absurd (omega (arith, letter-same 0 (job_word Run) (job_word Plan) same))
+word-one Run Profile same = absurd (omega (arith, letter-same 0 (job_word Run) (job_word Profile) same))
+word-one Run Run same = refl
+word-one Order Run same = absurd (omega (arith, letter-same 0 (job_word Order) (job_word Run) same))
+word-one Draws Run same = absurd (omega (arith, letter-same 0 (job_word Draws) (job_word Run) same))
+word-one Plan Run same = absurd (omega (arith, letter-same 0 (job_word Plan) (job_word Run) same))
+word-one Profile Run same = absurd (omega (arith, letter-same 0 (job_word Profile) (job_word Run) same))
 
 -- the words ask for one thing
 ask-one : (jobs : List Job) (words : List (List ℕ)) (ask other : Ask) → AsksFor jobs words ask → AsksFor jobs words other → other ≡ ask

@@ -9,9 +9,10 @@ use Rattle.surw_cli.specs.Answer.{Report}
 use Rattle.surw_cli.specs.CommandAnswer.{Coming, IsAnswer, NoJob, OfJob, answer_of_job}
 use Rattle.surw_cli.specs.Ending.{Call, Ends, IsCalm, WasReported, Wrote}
 use Rattle.surw_cli.specs.FileAnswer.{IsFileAnswer, Absent, Long, Held}
+use Rattle.surw_cli.specs.PlanAnswer.{plan_answer}
 use Rattle.surw_cli.specs.Planned.{status_by}
 use Rattle.surw_cli.specs.declared.ask.Job.{Job}
-use Rattle.surw_cli.specs.declared.ask.Job.TheVariants.{Order, Draws, Plan, Profile}
+use Rattle.surw_cli.specs.declared.ask.Job.TheVariants.{Order, Draws, Plan, Profile, Run}
 use Rattle.surw_cli.specs.declared.status.Status.{Status}
 use Rattle.surw_cli.specs.declared.status.Status.TheVariants.{Done, Failing, WrongCount, Asked, StepLimit, Draw}
 
@@ -40,14 +41,18 @@ reportable-run (verdict.Asked step thread event announced) failed = tt
 reportable-run (verdict.Left step thread) failed = tt
 reportable-run (verdict.StepLimit step) failed = tt
 
+reportable-plan : (bytes : List ℕ) (status : Status) (text : List ℕ) → plan_answer bytes (Report status text) → IsReportable status
+reportable-plan bytes status text made =
+    subst (λ s. IsReportable s) (sym made.ends) (reportable-run made.outcome.verdict (list_any is_some made.outcome.failed))
+
 reportable-job : (job : Job) (bytes : List ℕ) (status : Status) (text : List ℕ) → answer_of_job job bytes (Report status text) → IsReportable status
 unfolding IsReportable
 reportable-job Order bytes Done text made = tt
 reportable-job Order bytes _ text made = absurd made
 reportable-job Draws bytes Done text made = tt
 reportable-job Draws bytes _ text made = absurd made
-reportable-job Plan bytes status text made =
-    subst (λ s. IsReportable s) (sym made.ends) (reportable-run made.outcome.verdict (list_any is_some made.outcome.failed))
+reportable-job Plan bytes status text made = reportable-plan bytes status text made
+reportable-job Run bytes status text made = reportable-plan bytes status text made
 reportable-job Profile bytes Done text made = tt
 reportable-job Profile bytes _ text made = absurd made
 

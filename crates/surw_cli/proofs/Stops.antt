@@ -25,7 +25,7 @@ use Rattle.surw_cli.specs.OrderAnswer.{order_answer}
 use Rattle.surw_cli.specs.Status.{status_of}
 use Rattle.surw_cli.specs.Stop.{IsStop, IsStopOf, stop_of_fetch, stop_of_file}
 use Rattle.surw_cli.specs.declared.ask.Job.{Job}
-use Rattle.surw_cli.specs.declared.ask.Job.TheVariants.{Order, Draws, Plan, Profile}
+use Rattle.surw_cli.specs.declared.ask.Job.TheVariants.{Order, Draws, Plan, Profile, Run}
 use Rattle.surw_cli.specs.declared.stop.Stop.{Stop}
 use Rattle.surw_cli.specs.declared.stop.Stop.TheVariants.{Refused, OutOfMemory}
 
@@ -44,6 +44,7 @@ made-read Order bytes made = made
 made-read Draws bytes made = made
 made-read Plan bytes made = made
 made-read Profile bytes made = made
+made-read Run bytes made = made
 
 -- a job that stopped over the bytes of its file stopped so
 pub asked-stop : (jobs : List Job) (words : List (List ℕ)) (coming : Coming) (before now : ℕ) (ask : Ask) (bytes : List ℕ) (stop : Stop)

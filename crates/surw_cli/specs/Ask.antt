@@ -1,7 +1,7 @@
 -- What the words of a command line ask for.
 use Rattle.std.specs.Prelude.{◌≡◌, ◌≢◌, ℕ, List, [], ◌∷◌, Contains, codes, slice_index}
 use Rattle.surw_cli.specs.declared.ask.Job.{Job}
-use Rattle.surw_cli.specs.declared.ask.Job.TheVariants.{Order, Draws, Plan, Profile}
+use Rattle.surw_cli.specs.declared.ask.Job.TheVariants.{Order, Draws, Plan, Profile, Run}
 
 -- a job, and the name of its file
 pub record Ask : Type 0 where
@@ -14,6 +14,7 @@ job_word Order = codes "order"
 job_word Draws = codes "draws"
 job_word Plan = codes "plan"
 job_word Profile = codes "profile"
+job_word Run = codes "run"
 
 -- the words ask for one of these jobs over the file of a name that doesn't begin with `-` (45)
 pub record AsksFor (jobs : List Job) (words : List (List ℕ)) (ask : Ask) : Type 0 where
@@ -28,3 +29,7 @@ AsksForNothing jobs words = (ask : Ask) → AsksFor jobs words ask → ⊥
 -- the jobs that are done on the caller's own thread
 abbrev pub plain_jobs : List Job
 plain_jobs = Order ∷ Draws ∷ Plan ∷ Profile ∷ []
+
+-- those, and the one that is done on threads of its own
+abbrev pub all_jobs : List Job
+all_jobs = Order ∷ Draws ∷ Plan ∷ Profile ∷ Run ∷ []

@@ -12,18 +12,19 @@ use Rattle.surw_cli.specs.OrderAnswer.{order_answer}
 use Rattle.surw_cli.specs.PlanAnswer.{plan_answer}
 use Rattle.surw_cli.specs.ProfileAnswer.{profile_answer}
 use Rattle.surw_cli.specs.declared.ask.Job.{Job}
-use Rattle.surw_cli.specs.declared.ask.Job.TheVariants.{Order, Draws, Plan, Profile}
+use Rattle.surw_cli.specs.declared.ask.Job.TheVariants.{Order, Draws, Plan, Profile, Run}
 
 -- what the shelf gives for a name, where it tells it
 abbrev pub Coming : Type 0
 Coming = List ℕ → Option Entry
 
--- the answer of each job to the bytes of its file
+-- the answer of each job to the bytes of its file; a run on threads of its own answers what one on the caller's does
 abbrev pub answer_of_job : Job → List ℕ → Answer → Type 0
 answer_of_job Order bytes answer = order_answer bytes answer
 answer_of_job Draws bytes answer = draws_answer bytes answer
 answer_of_job Plan bytes answer = plan_answer bytes answer
 answer_of_job Profile bytes answer = profile_answer bytes answer
+answer_of_job Run bytes answer = plan_answer bytes answer
 
 -- the answer to what is asked for
 abbrev pub IsAskAnswer : Ask → Coming → Answer → Type 0

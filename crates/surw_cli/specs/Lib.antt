@@ -1,5 +1,6 @@
 pub mod Answer
 pub mod Ask
+pub mod Asked
 pub mod CommandAnswer
 pub mod CommandLine
 pub mod Counts
@@ -11,6 +12,7 @@ pub mod PlanAnswer
 pub mod Planned
 pub mod ProfileAnswer
 pub mod Profiled
+pub mod Reached
 pub mod Script
 pub mod Status
 pub mod Stop

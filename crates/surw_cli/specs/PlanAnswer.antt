@@ -1,4 +1,4 @@
--- The answer of the job `plan` to the bytes of its file.
+-- The answer of the jobs `plan` and `run` to the bytes of their file.
 use Rattle.std.specs.Prelude.{◌≡◌, ℕ, List, Ok, Err}
 use Rattle.pure_run.specs.declared.profiling.ProfileFault.{ProfileFault}
 use Rattle.pure_run.specs.declared.profiling.ProfileFault.TheVariants as profile

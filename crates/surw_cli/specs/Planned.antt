@@ -1,5 +1,5 @@
--- The run that the job `plan` makes of a scenario, and the status that its end gives.
-use Rattle.std.specs.Prelude.{ℕ, Bool, List, None, is_some, if◌then◌else◌}
+-- The run that the jobs `plan` and `run` make of a scenario, and the status that its end gives.
+use Rattle.std.specs.Prelude.{◌≡◌, ℕ, Bool, List, None, Ok, is_some, if◌then◌else◌}
 use Rattle.std.specs.List.{list_any}
 use Rattle.routine_kit.specs.declared.any_routine.AnyRoutine.{AnyRoutine}
 use Rattle.run_rules.specs.declared.plan.Plan.{Plan}
@@ -9,6 +9,7 @@ use Rattle.run_rules.specs.Run.{IsRun, Outcome}
 use Rattle.selected_order.specs.KeepsOrder.{KeepsOrder}
 use Rattle.scenario_toml.specs.declared.choice.Choice.{Choice}
 use Rattle.scenario_toml.specs.Plan.{IsPlanOf}
+use Rattle.scenario_toml.specs.Scenario.{scenario_of}
 use Rattle.scenario_toml.specs.State.{ScenarioState}
 use Rattle.seed_draws.specs.declared.any_draws.AnyDraws.{AnyDraws}
 use Rattle.surw_cli.specs.declared.status.Status.{Status}
@@ -19,6 +20,14 @@ use Rattle.surw_cli.specs.Script.{script}
 -- nothing is chosen in place of the file's values
 abbrev pub no_choice : Choice
 no_choice = record { strategy = None; seed = None; depth = None }
+
+-- the bytes are a scenario, and this is its plan with its counts
+pub record IsPlanned (bytes : List ℕ) (plan : Plan AnyRoutine AnyDraws AnyDraws) : Type 0 where
+  pub scenario : ScenarioState
+  pub form : scenario_of bytes ≡ Ok scenario
+  pub counts : List ℕ
+  pub counted : AreCounts scenario counts
+  pub planned : IsPlanOf scenario no_choice counts plan
 
 -- the run of the scenario's plan; under SURW it keeps the promise on the order of the selected events
 pub record IsRunOf (scenario : ScenarioState) (outcome : Outcome) : Type 0 where

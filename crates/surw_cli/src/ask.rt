@@ -13,6 +13,8 @@ pub(crate) enum Job {
     Plan,
     /// The profile of a scenario.
     Profile,
+    /// The run of a scenario, with a thread of its own for each of its threads.
+    Run,
 }
 
 impl Job {
@@ -25,6 +27,7 @@ impl Job {
             Job::Draws => "draws",
             Job::Plan => "plan",
             Job::Profile => "profile",
+            Job::Run => "run",
         }
     }
 }

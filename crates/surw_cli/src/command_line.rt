@@ -1,25 +1,30 @@
 ghost use Rattle.std.specs.Prelude.{◌≡◌, IfErr};
 ghost use Rattle.std.specs.IoError.{error_kind};
-ghost use Rattle.surw_cli.specs.Ask.{plain_jobs};
+ghost use Rattle.surw_cli.specs.Ask.{all_jobs};
 ghost use Rattle.surw_cli.specs.CommandLine.{given_words};
 ghost use Rattle.surw_cli.specs.Ending.{Call, Ends};
 
 use crate::status::Status;
-use crate::top::surw_plain;
+use crate::top::surw;
+use gate_core::Stage;
 use std::alloc::Global;
 use std::io::{self, ErrorKind};
+use std::sync::Wait;
+use std::thread::Threads;
 use surw_io::{Shelf, Sink};
 
-/// Ends as `surw_plain` does at the words that the process was given. Words that are no text are answered as
+/// Ends as `surw` does at the words that the process was given. Words that are no text are answered as
 /// none at all, which ask for no job; where memory for them was refused, nothing is written and no file opened.
-pub fn status_of_words<F: Shelf, O: Sink>(
+pub fn status_of_words<H: Threads + Wait + Sync, F: Shelf, O: Sink, G: Stage>(
+    rt: &H,
     alloc: Global,
     words: io::Result<Vec<String>>,
     shelf: &mut F,
     out: &mut O,
+    stage: &G,
 ) -> Status
     ensures ends { let call : Call = record {
-      jobs = plain_jobs;
+      jobs = all_jobs;
       words = given_words words;
       coming = F.coming shelf.old;
       shelf_before = F.in_faults shelf.old;
@@ -34,8 +39,10 @@ pub fn status_of_words<F: Shelf, O: Sink>(
     ensures unopened { IfErr words (λ _. F.opens shelf.new ≡ F.opens shelf.old) }
 {
     match words {
-        Ok(words) => surw_plain(alloc, words.as_slice(), shelf, out),
-        Err(error) if error.kind() == ErrorKind::InvalidData => surw_plain(alloc, &[], shelf, out),
+        Ok(words) => surw(rt, alloc, words.as_slice(), shelf, out, stage),
+        Err(error) if error.kind() == ErrorKind::InvalidData => {
+            surw(rt, alloc, &[], shelf, out, stage)
+        }
         Err(_) => Status::OutOfMemory,
     }
 }

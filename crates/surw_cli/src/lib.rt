@@ -2,14 +2,16 @@
 #![tactic(auto)]
 
 mod ask;
+mod asked;
 mod command_line;
 mod jobs;
 pub mod laws;
 mod report;
 mod status;
 mod stop;
+mod tell;
 mod top;
 
 pub use command_line::status_of_words;
 pub use status::Status;
-pub use top::surw_plain;
+pub use top::{surw, surw_plain};

@@ -1,30 +1,10 @@
-use Rattle.std.proofs.lemmas.Result.{err_from_is_err_and}
-use Rattle.surw_cli.proofs.ProfileStops.{plan-stop}
+use Rattle.surw_cli.proofs.Outcomes.{run-report, run-stop}
 use Rattle.surw_cli.proofs.jobs.plan.report_of_plan.Goals as goal
 
-pub returns-in_err-counts-clause-stopped : goal.returns-in_err-counts-clause-stopped
-returns-in_err-counts-clause-stopped c =
-    let p = err_from_is_err_and c.from_residual-in_err-counts.result c.from_residual-in_err-counts.ensures.1 in
-    rw (p.1, p.2) (plan-stop c.args.bytes.now c.in_ok-scenario.scenario c.in_err-counts.field-0.0 c.in_ok-scenario.ensures.ok c.in_err-counts.ensures.stopped)
-
-pub returns-in_err-text-clause-stopped : goal.returns-in_err-text-clause-stopped
-returns-in_err-text-clause-stopped c =
-    let p = err_from_is_err_and c.from_residual-in_err-text.result c.from_residual-in_err-text.ensures.1 in
-    rw (p.1, p.2) tt
-
 pub returns-clause-report : goal.returns-clause-report
-returns-clause-report c = record {
-  scenario = c.in_ok-scenario.scenario;
-  form = c.in_ok-scenario.ensures.ok;
-  outcome = c.in_ok-run.run';
-  run = record {
-    counts = c.in_ok-counts.counts;
-    counted = c.in_ok-counts.ensures.counts;
-    plan = c.in_ok-plan.plan;
-    planned = c.in_ok-plan.ensures.plan;
-    run = c.in_ok-run.ensures.run;
-    order = c.in_ok-run.ensures.order;
-  };
-  printed = c.in_ok-text.ensures;
-  ends = c.status_of.ensures;
-}
+returns-clause-report c =
+    run-report c.args.bytes.now c.in_ok-plan.plan c.in_ok-run.run' c.report_of_outcome.result c.in_ok-plan.ensures.planned c.in_ok-run.ensures.run c.in_ok-run.ensures.order
+    c.report_of_outcome.ensures.printed c.report_of_outcome.ensures.ends
+
+pub returns-clause-stopped : goal.returns-clause-stopped
+returns-clause-stopped c = run-stop c.args.bytes.now c.report_of_outcome.result c.report_of_outcome.ensures.stopped

@@ -1,0 +1,4 @@
+pub mod Logs
+pub mod Passes
+pub mod Runs
+pub mod Sends

@@ -1,0 +1,15 @@
+use Rattle.std.proofs.Common.{[], ◌∷◌, length, ap, ◌∙◌, arith}
+use Rattle.std.proofs.lemmas.List.{length-append}
+use Rattle.gate_core.proofs.Logs.{follows-more}
+use Rattle.gate_core.proofs.log.Log.push.Goals as goal
+
+pub invariant_of-self : goal.invariant_of-self
+invariant_of-self g c =
+    let i = c.self.invariant in
+    let p = c.push_reserved.ensures in
+    rw (p.items, c.take.ensures) (
+      follows-more _ _ _ _ _ i.0 (ap (λ v. g.R.Routine.announced v.now) c.self.view_is ∙ c.requires.next),
+      omega (arith, length-append c.self.inside.items.items ((c.args.event, c.args.reply) ∷ []), c.requires.room, ap (λ v. length v.items) c.self.view_is, ap (λ v. v.room) c.self.view_is),
+      omega (arith, p.capacity, i.2),
+      i.3,
+    )

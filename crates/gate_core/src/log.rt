@@ -1,0 +1,128 @@
+ghost use Rattle.std.specs.Prelude.{◌≡◌, ◌<◌, ◌≤◌, IsTrue, Some, IfOk, [], ◌∷◌, ◌++◌, length, slice_get};
+ghost use Rattle.surw_base.specs.declared.limits.TheConstants.{STEPS};
+ghost use Rattle.gate_core.specs.Log.{IsOwn, made_by};
+
+use event_class::Event;
+use pure_run::{Entry, Run};
+use routine_kit::Routine;
+use std::alloc::Global;
+use std::marker::Model;
+use std::snapshot::Snapshot;
+use surw_base::{OutOfMemory, ThreadNo};
+
+/// A worker's own list of its events and replies, with the routine that makes them. Each event is what the routine
+/// announces after the replies before it.
+#[derive(Drop)]
+pub struct Log<R: Routine> {
+    start: Snapshot<R>,
+    routine: R,
+    items: Vec<(Event, u64)>,
+    room: u32,
+}
+
+impl<R: Routine> Model for Log<R> {
+    ghost use Rattle.std.specs.Prelude.{◌<◌, ◌≤◌, length, vec_capacity};
+    ghost use Rattle.gate_core.specs.Log.{LogState, Follows};
+
+    ghost Value = { LogState R };
+
+    ghost view = { λ l. record { start = l.start.value; now = l.routine; items = l.items.items; room = l.room } };
+
+    ghost invariant = { λ l. Follows R.Routine l.start.value l.items.items l.routine × (length l.items.items ≤ l.room) × (l.room ≤ vec_capacity l.items) × (l.room < 4294967296) };
+}
+
+impl<R: Routine> Log<R> {
+    /// An empty log of a routine, with room for so many events. An error comes only where memory is refused.
+    pub fn new(alloc: Global, routine: &R, room: u32) -> Result<Log<R>, OutOfMemory>
+        ensures { IfOk result (λ log. log ≡ record { start = routine.now; now = routine.now; items = []; room = room }) }
+    {
+        let start = Snapshot::of(routine);
+        let routine = routine.copy(alloc)?;
+        let mut items = Vec::new(alloc);
+        items.reserve(room as usize)?;
+        Ok(Log {
+            start,
+            routine,
+            items,
+            room,
+        })
+    }
+
+    /// What the routine announces now.
+    pub fn next(&self) -> Option<Event>
+        ensures { result ≡ R.announced self.now.now }
+    {
+        self.routine.announce()
+    }
+
+    /// Adds the event that the routine announces with its reply, and tells the routine the reply.
+    pub fn push(&mut self, event: Event, reply: u64)
+        requires next { R.announced self.old.now ≡ Some event }
+        requires room { length self.old.items < self.old.room }
+        ensures { self.new ≡ record self.old { now = R.after_reply self.old.now reply; items = self.old.items ++ (event, reply) ∷ [] } }
+    {
+        self.routine.take(reply);
+        self.items.push_reserved((event, reply));
+    }
+
+    /// How many events it has.
+    pub fn len(&self) -> u32
+        ensures { result ≡ length self.now.items }
+    {
+        self.items.len() as u32
+    }
+
+    /// The event and the reply at a place, from 0.
+    pub fn at(&self, k: u32) -> (Event, u64)
+        requires { k < length self.now.items }
+        ensures { slice_get self.now.items k ≡ Some result }
+    {
+        self.items[k as usize]
+    }
+
+    /// Adds the event that the routine announces with this reply, where it announces one and there is room.
+    pub(crate) fn take(&mut self, reply: u64)
+        ensures { self.new.start ≡ self.old.start }
+    {
+        if let Some(event) = self.next() {
+            if self.len() < self.room {
+                self.push(event, reply);
+            }
+        }
+    }
+
+    /// Whether it is the log of a thread of a run: its items are the thread's entries, and what it announces is the
+    /// thread's last word.
+    pub(crate) fn is_own(&self, run: &Run, thread: ThreadNo) -> bool
+        ensures { IsTrue result → IsOwn R.Routine run.now.journal run.now.words thread self.now }
+    {
+        let _ = &self.start;
+        if self.has_entries(run.journal(), thread) && run.next(thread) == self.next() {
+            true
+        } else {
+            false
+        }
+    }
+
+    // Whether its items are the entries of the thread.
+    fn has_entries(&self, journal: &[Entry], thread: ThreadNo) -> bool
+        requires { length journal.now ≤ STEPS }
+        ensures { IsTrue result → self.now.items ≡ made_by thread journal.now }
+    {
+        let mut place = 0;
+        for entry in journal {
+            if entry.thread == thread {
+                if place >= self.len() {
+                    return false;
+                }
+                let (event, reply) = self.at(place);
+                if event == entry.event && reply == entry.reply {
+                    place += 1;
+                } else {
+                    return false;
+                }
+            }
+        }
+        place == self.len()
+    }
+}

@@ -1,0 +1,73 @@
+ghost use Rattle.std.specs.Prelude.{◌≡◌, false};
+ghost use Rattle.gate_core.specs.Gate.{IsPassOf};
+
+use crate::{Gate, Lent, Log, Pass, Stage, Waited};
+use routine_kit::Routine;
+use seed_draws::Draws;
+use std::snapshot::Snapshot;
+use std::sync::Wait;
+use std::thread::Promise;
+
+/// What a worker hands back.
+#[derive(Drop)]
+pub struct Worked<R: Routine, S: Draws, O: Draws> {
+    /// Its events and replies.
+    pub log: Log<R>,
+    /// The pass that it began with.
+    pub pass: Pass<S, O>,
+}
+
+/// A worker's promise: to hand back the pass that it begins with, and a log of the routine that it begins with.
+#[derive(Drop)]
+pub struct HandsBack<R: Routine, S: Draws, O: Draws> {
+    /// The log at the start.
+    pub log: Snapshot<Log<R>>,
+    /// The pass.
+    pub pass: Snapshot<Pass<S, O>>,
+}
+
+impl<R: Routine, S: Draws, O: Draws> Promise<Worked<R, S, O>> for HandsBack<R, S, O> {
+    ghost kept_by = { λ promise worked. (worked.log.start ≡ promise.log.value.start) × (worked.pass ≡ promise.pass.value) };
+}
+
+/// Makes the steps of one thread, each when it is granted, until the core has a verdict or the gate is closed.
+pub(crate) fn work<R: Routine, S: Draws, O: Draws, C: Drop, G: Stage, W: Wait>(
+    rt: &W,
+    gate: &Gate<S, O, C>,
+    stage: &G,
+    pass: Pass<S, O>,
+    mut log: Log<R>,
+) -> Worked<R, S, O>
+    requires { IsPassOf gate.now pass }
+    ensures { (result.log.start ≡ log.start) × (result.pass ≡ pass) }
+{
+    let thread = pass.thread();
+    stage.born(thread);
+    let mut pass = pass;
+    for _ in rt.forever() {
+        match gate.wait_grant(rt, pass) {
+            Waited::Mine(lent) => {
+                let step = lent.step();
+                stage.at_turn(thread, step);
+                pass = make_step(lent, &mut log);
+                stage.handed(thread, step);
+            }
+            Waited::Over(pass) | Waited::Closed(pass, _) => return Worked { log, pass },
+        }
+    }
+    unreachable!()
+}
+
+// Makes the step, tells the routine the reply, and says what it announces then.
+fn make_step<R: Routine, S: Draws, O: Draws>(
+    mut lent: Lent<'_, S, O>,
+    log: &mut Log<R>,
+) -> Pass<S, O>
+    requires { lent.performed ≡ false }
+    ensures pass { result ≡ lent.entry.pass }
+    ensures start { log.new.start ≡ log.old.start }
+{
+    let reply = lent.perform();
+    log.take(reply);
+    lent.hand_on(log.next())
+}

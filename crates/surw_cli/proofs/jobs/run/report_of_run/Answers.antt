@@ -1,0 +1,10 @@
+use Rattle.surw_cli.proofs.Outcomes.{run-report, run-stop}
+use Rattle.surw_cli.proofs.jobs.run.report_of_run.Goals as goal
+
+pub returns-clause-report : goal.returns-clause-report
+returns-clause-report g c =
+    run-report c.args.bytes.now c.in_ok-plan.plan c.in_ok-run.run' c.report_of_outcome.result c.in_ok-plan.ensures.planned c.in_ok-run.ensures.run c.in_ok-run.ensures.order
+    c.report_of_outcome.ensures.printed c.report_of_outcome.ensures.ends
+
+pub returns-clause-stopped : goal.returns-clause-stopped
+returns-clause-stopped g c = run-stop c.args.bytes.now c.report_of_outcome.result c.report_of_outcome.ensures.stopped

@@ -1,0 +1,28 @@
+ghost use Rattle.std.specs.Prelude.{IfOk, IfErr};
+ghost use Rattle.surw_cli.specs.Answer as answer;
+ghost use Rattle.surw_cli.specs.PlanAnswer.{plan_answer};
+ghost use Rattle.surw_cli.specs.Stop.{IsStopOf};
+
+use crate::jobs::outcome::report_of_outcome;
+use crate::jobs::planned::plan_of;
+use crate::report::Report;
+use crate::stop::Stop;
+use gate_core::{Stage, run_gated};
+use std::alloc::Global;
+use std::sync::Wait;
+use std::thread::Threads;
+
+/// The report of the job `run` over the bytes of its file: the run of its scenario, made on threads of its own.
+pub(crate) fn report_of_run<H: Threads + Wait + Sync, G: Stage>(
+    rt: &H,
+    alloc: Global,
+    bytes: &[u8],
+    stage: &G,
+) -> Result<Report, Stop>
+    ensures report { IfOk result (λ report. plan_answer bytes.now (answer.Report report.status report.text.items)) }
+    ensures stopped { IfErr result (IsStopOf (plan_answer bytes.now)) }
+{
+    let plan = plan_of(alloc, bytes)?;
+    let run = run_gated(rt, alloc, &plan, stage)?;
+    report_of_outcome(alloc, &run)
+}
