@@ -6,6 +6,19 @@ use std::test::Fail;
 // A thread without a fault, and the head of a second one.
 const FIRST: &str = "[[thread]]\nkind = 'adder'\ncell = 0\n[[thread]]\n";
 
+// The same with the kind of the second one.
+const STEPS_HEAD: &str = "[[thread]]\nkind = 'adder'\ncell = 0\n[[thread]]\nkind = 'steps'\n";
+
+const ADDER_HEAD: &str = "[[thread]]\nkind = 'adder'\ncell = 0\n[[thread]]\nkind = 'adder'\n";
+
+const CACHE_USER_HEAD: &str =
+    "[[thread]]\nkind = 'adder'\ncell = 0\n[[thread]]\nkind = 'cache_user'\n";
+
+const FLUSHER_HEAD: &str = "[[thread]]\nkind = 'adder'\ncell = 0\n[[thread]]\nkind = 'flusher'\n";
+
+const LOG_WRITER_HEAD: &str =
+    "[[thread]]\nkind = 'adder'\ncell = 0\n[[thread]]\nkind = 'log_writer'\n";
+
 fn text(bytes: &[u8]) -> &str {
     std::str::from_utf8(bytes).unwrap_or("no text")
 }
@@ -283,8 +296,7 @@ lines = []; times = 4097 => range thread.1.times 4097 1 4096
 
 #[test]
 fn faults_of_a_thread_of_lines(rt: HostRuntime) -> Result<(), Fail> {
-    let prefix = format!(in rt.alloc(); "{FIRST}kind = 'steps'\n")?;
-    assert_answers(&rt, rt.alloc(), prefix.as_str(), LINES)
+    assert_answers(&rt, rt.alloc(), STEPS_HEAD, LINES)
 }
 
 const ADDER: &str = " => missing thread.1.cell
@@ -302,8 +314,7 @@ cell = 0; tries = 4097 => range thread.1.tries 4097 1 4096
 
 #[test]
 fn faults_of_a_thread_that_adds(rt: HostRuntime) -> Result<(), Fail> {
-    let prefix = format!(in rt.alloc(); "{FIRST}kind = 'adder'\n")?;
-    assert_answers(&rt, rt.alloc(), prefix.as_str(), ADDER)
+    assert_answers(&rt, rt.alloc(), ADDER_HEAD, ADDER)
 }
 
 const CACHE_USER: &str = "expect = '0' => missing thread.1.page
@@ -323,8 +334,7 @@ page = 0; expect = 0 => taken
 
 #[test]
 fn faults_of_a_thread_that_uses_the_cache(rt: HostRuntime) -> Result<(), Fail> {
-    let prefix = format!(in rt.alloc(); "{FIRST}kind = 'cache_user'\n")?;
-    assert_answers(&rt, rt.alloc(), prefix.as_str(), CACHE_USER)
+    assert_answers(&rt, rt.alloc(), CACHE_USER_HEAD, CACHE_USER)
 }
 
 const FLUSHER: &str = "mark_first = 1 => missing thread.1.rounds
@@ -340,8 +350,7 @@ rounds = 1 => taken
 
 #[test]
 fn faults_of_a_thread_that_flushes(rt: HostRuntime) -> Result<(), Fail> {
-    let prefix = format!(in rt.alloc(); "{FIRST}kind = 'flusher'\n")?;
-    assert_answers(&rt, rt.alloc(), prefix.as_str(), FLUSHER)
+    assert_answers(&rt, rt.alloc(), FLUSHER_HEAD, FLUSHER)
 }
 
 const LOG_WRITER: &str = "value = '0' => missing thread.1.page
@@ -357,8 +366,7 @@ page = 255; value = 9223372036854775807 => taken
 
 #[test]
 fn faults_of_a_thread_that_logs(rt: HostRuntime) -> Result<(), Fail> {
-    let prefix = format!(in rt.alloc(); "{FIRST}kind = 'log_writer'\n")?;
-    assert_answers(&rt, rt.alloc(), prefix.as_str(), LOG_WRITER)
+    assert_answers(&rt, rt.alloc(), LOG_WRITER_HEAD, LOG_WRITER)
 }
 
 const COUNTS_AND_CELLS: &str = "counts = [1]; thread = [1] => wrong_kind thread.0
