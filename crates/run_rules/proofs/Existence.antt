@@ -83,7 +83,7 @@ run-from script zero journal valid selected other goes room = elim (cases-option
   | inl some ↦ run-here script journal goes some
   | inr none ↦
       let x : Position = position_of script journal in
-      absurd (limit-none script.setup x (verdict-none script.setup x none).2 (omega (arith, room)))
+      absurd (limit-none script.setup x (verdict-none script.setup x none).short (omega (arith, room)))
 ]
 run-from script (suc more) journal valid selected other goes room = elim (cases-option (verdict_at script.setup (position_of script journal))) [
   | inl some ↦ run-here script journal goes some

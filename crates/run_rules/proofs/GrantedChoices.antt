@@ -11,12 +11,14 @@ use Rattle.walk_rules.specs.Seen.{is_able, seen_of}
 use Rattle.walk_rules.specs.Strategies.{strategy}
 use Rattle.walk_rules.specs.Walk.{CanPick, GrantsAble}
 use Rattle.walk_rules.proofs.StrategyLaws.{is-strategy}
+use Rattle.walk_rules.proofs.WrongThreads.{none-below}
 use Rattle.run_rules.specs.EventsMade.{events_made}
 use Rattle.run_rules.specs.Position.{Position, earlier, position_at, seen_at, world_at}
 use Rattle.run_rules.specs.RuleChoice.{choice, choices, other_asked, selected_asked, walk_at}
 use Rattle.run_rules.specs.Setup.{Setup, IsValid}
 use Rattle.run_rules.specs.StepwisePicks.{WereAnswered}
 use Rattle.run_rules.specs.Verdict.{first_miscounted, is_miscounted, is_miscounted_at, verdict_at}
+use Rattle.run_rules.proofs.AskedEntries.{asks-able}
 use Rattle.run_rules.proofs.EarlierPositions.{earlier-next, position-here}
 use Rattle.run_rules.proofs.StrategyPicks.{picks-choices}
 use Rattle.run_rules.proofs.Verdicts.{verdict-none, IsGranted, refusal-none}
@@ -26,22 +28,9 @@ use Rattle.run_rules.proofs.WrongCounts.{counts-right}
 
 -- ---- no thread is miscounted
 
-none-first : {A : Type 0} (b : Bool) (x : A) (rest : Option A) → cond b (Some x) rest ≡ None → (b ≡ false) × (rest ≡ None)
-none-first true x rest none = absurd (none-some x (sym none))
-none-first false x rest none = (refl, none)
-
--- where nothing is found each item fails
-none-found : {A : Type 0} (test : A → Bool) (xs : List A) → find test xs ≡ None → (k : ℕ) (d : A) → k < length xs → test (get_or xs k d) ≡ false
-none-found test [] none k d lt = absurd (omega arith)
-none-found test (x ∷ xs) none zero d lt = (none-first (test x) x (find test xs) none).0
-none-found test (x ∷ xs) none (suc k) d lt = none-found test xs (none-first (test x) x (find test xs) none).1 k d (omega arith)
-
 pub is-counted : (setup : Setup) (x : Position) (thread : ℕ) → first_miscounted setup x ≡ None → thread < length x.words
     → is_miscounted setup.selection (get_or setup.counts thread 0) (events_made setup.selection x.journal thread) (get_or x.words thread None) ≡ false
-is-counted setup x thread none within =
-    let at : get_or (range_with_len 0 (length x.words)) thread 0 ≡ thread = get_or-range_with_len 0 (length x.words) thread 0 within ∙ omega arith in
-    sym (ap (is_miscounted_at setup x) at)
-    ∙ none-found (is_miscounted_at setup x) (range_with_len 0 (length x.words)) none thread 0 (omega (arith, within, length-range_with_len 0 (length x.words)))
+is-counted setup x thread none within = none-below (is_miscounted_at setup x) (length x.words) thread none within
 
 -- ---- what was asked was answered
 
@@ -85,12 +74,13 @@ module _ (setup : Setup) (x : Position) (source_s : IsSource setup.selected.answ
   unfolding seen_at
   granted-able thread forced valid going granted =
       let parts = verdict-none setup x going in
-      let some = some-able setup x parts.3 in
+      let some = some-able setup x parts.able in
       let has = has-word setup x some.thread some.able in
       let can : CanPick (strategy setup.rule) (walk_at setup x) (seen_at setup x) = record {
         able = able-some (seen_at setup x) some.thread (omega (arith, has.within, length-seen setup x)) some.able;
-        right = counts-right setup x parts.0;
+        right = counts-right setup x parts.counted;
         chosen = chosen-under setup.rule (world_at setup x) setup.selection x.words valid.every;
+        asked = asks-able setup x parts;
       } in
       subst (λ picked. GrantsAble (seen_at setup x) picked) ((picks-choices setup.rule).picks setup x answered ∙ granted)
       ((is-strategy setup.rule).able (walk_at setup x) (seen_at setup x) (answers_after setup.selected.answers asked_s)
@@ -102,7 +92,7 @@ GoesSoFar setup x = (k : ℕ) → k < length x.journal → verdict_at setup (pos
 
 -- a choice where the run goes on is granted
 pub going-granted : (setup : Setup) (x : Position) → verdict_at setup x ≡ None → IsGranted (choice setup x)
-going-granted setup x going = refusal-none (length x.journal) (choice setup x) (verdict-none setup x going).4
+going-granted setup x going = refusal-none (length x.journal) (choice setup x) (verdict-none setup x going).granted
 
 -- where the run went on, all that was asked was answered
 answered-before : (setup : Setup) (x : Position) → IsSource setup.selected.answers → IsSource setup.other.answers → GoesSoFar setup x

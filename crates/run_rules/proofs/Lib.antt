@@ -1,6 +1,9 @@
+pub mod AskedEntries
 pub mod DueIntentions
 pub mod EarlierPositions
+pub mod EventsEqual
 pub mod Existence
+pub mod FollowPicks
 pub mod GrantedChoices
 pub mod IntentionSums
 pub mod Intentions

@@ -1,5 +1,6 @@
 pub mod Bounds
 pub mod EventsMade
+pub mod FollowChoice
 pub mod Intention
 pub mod Journal
 pub mod LegalJournal
@@ -9,6 +10,7 @@ pub mod PctChoice
 pub mod PlainChoice
 pub mod Plan
 pub mod Position
+pub mod Replay
 pub mod Replies
 pub mod RuleChoice
 pub mod Run

@@ -1,15 +1,16 @@
 -- The choice at a position, and the bounds that are asked for it, by the rule of the setup. Of this crate's definitions
--- `choices` alone tells one rule from another; other files ask a rule only whether it counts down, and whether it wants
--- every event.
+-- `choices` alone tells one rule from another; other files ask a rule only whether it counts down, whether it wants every
+-- event, and which entries it asks for.
 use Rattle.std.specs.Prelude.{ℕ, List, length, None}
 use Rattle.seed_draws.specs.Answers.{answers_after}
 use Rattle.walk_rules.specs.declared.picked.Picked.{Picked}
 use Rattle.walk_rules.specs.declared.rule.Rule.{Rule}
-use Rattle.walk_rules.specs.declared.rule.Rule.TheVariants.{Urw, Surw, Pct, Plain}
+use Rattle.walk_rules.specs.declared.rule.Rule.TheVariants.{Urw, Surw, Pct, Plain, Follow}
 use Rattle.walk_rules.specs.State.{WalkState}
 use Rattle.walk_rules.specs.Strategies.{strategy}
 use Rattle.walk_rules.specs.Strategy.{OnePick, Strategy}
 use Rattle.run_rules.specs.Bounds.{bounds_over}
+use Rattle.run_rules.specs.FollowChoice.{follow_choices}
 use Rattle.run_rules.specs.NumbersLeft.{left_by}
 use Rattle.run_rules.specs.PctChoice.{pct_choices}
 use Rattle.run_rules.specs.PlainChoice.{plain_choices}
@@ -24,6 +25,7 @@ choices Urw = urw_choices
 choices Surw = surw_choices
 choices (Pct depth) = pct_choices depth
 choices Plain = plain_choices
+choices (Follow list) = follow_choices list
 
 -- the thread that is chosen, with its mark, or the refusal
 abbrev pub choice : Setup → Position → Picked

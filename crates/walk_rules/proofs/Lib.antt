@@ -1,7 +1,9 @@
 pub mod AbleThreads
+pub mod AskedEqual
 pub mod DrawnGrants
 pub mod FallingPriorities
 pub mod FirstPriorities
+pub mod FollowLaws
 pub mod LinkSearch
 pub mod NodeOrder
 pub mod PctDraws

@@ -6,7 +6,7 @@ use Rattle.std.proofs.lemmas.List.FromFn.{get_or-range_with_len, length-range_wi
 use Rattle.std.proofs.lemmas.Option.{none-some}
 use Rattle.std.specs.List.{All, find, range_with_len}
 use Rattle.std.specs.Option.{option_map}
-use Rattle.walk_rules.specs.Seen.{is_able, is_announcing, is_chosen, seen_of, able_threads, kept_to_able}
+use Rattle.walk_rules.specs.Seen.{first_announcing, is_able, is_announcing, is_chosen, seen_of, able_threads, kept_to_able}
 use Rattle.walk_rules.specs.Urw.{urw_bound}
 use Rattle.walk_rules.specs.Walk.{is_wrong, first_wrong, wrong_by, AreChosen}
 use Rattle.walk_rules.specs.declared.seen.Seen.{Seen}
@@ -50,6 +50,28 @@ none-passes test first (suc n) none (suc j) lt =
     let rest = sym (cond-false (test first) (Some first) (find test (range_with_len (first + 1) n)) (first-fails test first n none)) ∙ none in
     ap test next ∙ none-passes test (first + 1) n rest j (omega arith)
 
+-- the least number below another that passes, and where none does
+first-passes : (test : ℕ → Bool) (n k : ℕ) → k < n → ((j : ℕ) → j < k → test j ≡ false) → test k ≡ true → find test (range_with_len 0 n) ≡ Some k
+first-passes test n k lt before here =
+    let same : 0 + k ≡ k = omega arith in
+    find-at test 0 n k lt
+    (λ j below. let as_is : 0 + j ≡ j = omega arith in ap test as_is ∙ before j below)
+    (ap test same ∙ here)
+    ∙ ap Some same
+
+passes-none : (test : ℕ → Bool) (n : ℕ) → ((j : ℕ) → j < n → test j ≡ false) → find test (range_with_len 0 n) ≡ None
+passes-none test n none =
+    find-none test (range_with_len 0 n) (λ j lt.
+    let within : j < n = omega (arith, lt, length-range_with_len 0 n) in
+    let as_is : get_or (range_with_len 0 n) j 0 ≡ j = get_or-range_with_len 0 n j 0 within ∙ omega arith in
+    ap test as_is ∙ none j within)
+
+-- where none does each fails
+pub none-below : (test : ℕ → Bool) (n k : ℕ) → find test (range_with_len 0 n) ≡ None → k < n → test k ≡ false
+none-below test n k none lt =
+    let as_is : k ≡ 0 + k = omega arith in
+    ap test as_is ∙ none-passes test 0 n none k lt
+
 -- whether this thread is wrong
 abbrev pub wrong_at : List ℕ → List Seen → ℕ → Bool
 wrong_at left view thread = is_wrong (get_or left thread 0) (get_or view thread Over)
@@ -57,29 +79,33 @@ wrong_at left view thread = is_wrong (get_or left thread 0) (get_or view thread 
 -- the least thread that is wrong
 pub first-wrong-at : (left : List ℕ) (view : List Seen) (thread : ℕ) → thread < length view
     → ((j : ℕ) → j < thread → wrong_at left view j ≡ false) → wrong_at left view thread ≡ true → first_wrong left view ≡ Some thread
-first-wrong-at left view thread lt before here =
-    let same : 0 + thread ≡ thread = omega arith in
-    find-at (wrong_at left view) 0 (length view) thread lt
-    (λ j below. let as_is : 0 + j ≡ j = omega arith in ap (wrong_at left view) as_is ∙ before j below)
-    (ap (wrong_at left view) same ∙ here)
-    ∙ ap Some same
+first-wrong-at left view thread lt before here = first-passes (wrong_at left view) (length view) thread lt before here
 
 -- no thread is wrong
 pub first-wrong-none : (left : List ℕ) (view : List Seen) → ((j : ℕ) → j < length view → wrong_at left view j ≡ false) → first_wrong left view ≡ None
-first-wrong-none left view none =
-    find-none (wrong_at left view) (range_with_len 0 (length view)) (λ j lt.
-    let within : j < length view = omega (arith, lt, length-range_with_len 0 (length view)) in
-    let as_is : get_or (range_with_len 0 (length view)) j 0 ≡ j = get_or-range_with_len 0 (length view) j 0 within ∙ omega arith in
-    ap (wrong_at left view) as_is ∙ none j within)
+first-wrong-none left view none = passes-none (wrong_at left view) (length view) none
 
 -- what the pass over the threads finds
 pub ruleset firsts = (first-wrong-at, first-wrong-none)
 
+-- whether this thread announces an event
+abbrev pub announcing_at : List Seen → ℕ → Bool
+announcing_at view thread = is_announcing (get_or view thread Over)
+
+-- the least thread that announces an event
+pub first-announcing-at : (view : List Seen) (thread : ℕ) → thread < length view
+    → ((j : ℕ) → j < thread → announcing_at view j ≡ false) → announcing_at view thread ≡ true → first_announcing view ≡ Some thread
+first-announcing-at view thread lt before here = first-passes (announcing_at view) (length view) thread lt before here
+
+-- no thread announces one
+pub first-announcing-none : (view : List Seen) → ((j : ℕ) → j < length view → announcing_at view j ≡ false) → first_announcing view ≡ None
+first-announcing-none view none = passes-none (announcing_at view) (length view) none
+
+pub ruleset announcing_firsts = (first-announcing-at, first-announcing-none)
+
 -- where none is found no thread is wrong
 pub none-wrong : (left : List ℕ) (view : List Seen) → first_wrong left view ≡ None → (thread : ℕ) → thread < length view → wrong_at left view thread ≡ false
-none-wrong left view none thread lt =
-    let as_is : thread ≡ 0 + thread = omega arith in
-    ap (wrong_at left view) as_is ∙ none-passes (wrong_at left view) 0 (length view) none thread lt
+none-wrong left view none thread lt = none-below (wrong_at left view) (length view) thread none lt
 
 able-announces : (seen : Seen) → IsTrue (is_able seen) → IsTrue (is_announcing seen)
 able-announces Over able = able
@@ -105,7 +131,7 @@ kept-somewhere left view some none chosen =
     let selected = All-get_or (λ seen. IsTrue (is_announcing seen) → IsTrue (is_chosen seen)) view thread Over within chosen announces in
     kept-positive left view thread able (left-positive (get_or left thread 0) (seen_of view thread) selected (none-wrong left view none thread within))
 
-none-mapped : {A B : Type 0} (f : A → B) (found : Option A) → option_map f found ≡ None → found ≡ None
+pub none-mapped : {A B : Type 0} (f : A → B) (found : Option A) → option_map f found ≡ None → found ≡ None
 none-mapped f (Some x) same = cc
 none-mapped f None same = refl
 

@@ -1,4 +1,5 @@
 pub mod Announced
+pub mod Follow
 pub mod Granted
 pub mod Pct
 pub mod PctDraws

@@ -1,6 +1,6 @@
 -- PCT: at the first pick each thread gets a priority by selected draws, and steps are drawn at which the able thread of
 -- highest priority gets a low one; the able thread of highest priority takes each step.
-use Rattle.std.specs.Prelude.{ℕ, Result, Ok, Err, ◌+◌, ◌-◌, ◌==◌, ltb, false, List, [], ◌∷◌, ◌++◌, drop, length, map, replicate, slice_index, slice_set, sum, take, if◌then◌else◌}
+use Rattle.std.specs.Prelude.{None, ℕ, Result, Ok, Err, ◌+◌, ◌-◌, ◌==◌, ltb, false, List, [], ◌∷◌, ◌++◌, drop, length, map, replicate, slice_index, slice_set, sum, take, if◌then◌else◌}
 use Rattle.std.specs.List.{range_with_len}
 use Rattle.draw_split.specs.Named.{named_order}
 use Rattle.seed_draws.specs.declared.draw_fault.DrawFault.{DrawFault}
@@ -85,4 +85,4 @@ abbrev pub pct_pick : ℕ → WalkState → List Seen → Answering → Answerin
 pct_pick depth walk view selected other = pct_by depth walk view (pct_found depth walk (selected (pct_asked depth walk.steps walk.counts)))
 
 abbrev pub pct : ℕ → Strategy
-pct depth = record { pick = pct_pick depth; counts_down = false; wants_every = false }
+pct depth = record { pick = pct_pick depth; counts_down = false; wants_every = false; asked = None }

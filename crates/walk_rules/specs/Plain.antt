@@ -1,5 +1,5 @@
 -- Plain: one other draw picks among the threads that can go on.
-use Rattle.std.specs.Prelude.{ℕ, List, [], ◌∷◌, length, slice_index, false}
+use Rattle.std.specs.Prelude.{None, ℕ, List, [], ◌∷◌, length, slice_index, false}
 use Rattle.seed_draws.specs.Answers.{Answering}
 use Rattle.walk_rules.specs.declared.seen.Seen.{Seen}
 use Rattle.walk_rules.specs.Granted.{granted_at}
@@ -24,4 +24,4 @@ plain_pick walk view selected other = record {
 }
 
 abbrev pub plain : Strategy
-plain = record { pick = plain_pick; counts_down = false; wants_every = false }
+plain = record { pick = plain_pick; counts_down = false; wants_every = false; asked = None }

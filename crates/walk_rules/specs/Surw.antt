@@ -81,4 +81,4 @@ surw_pick walk view selected other =
     surw_by walk view other (intention_by walk.memory.intended walk.left (selected (intention_bounds walk.memory.intended walk.left)))
 
 abbrev pub surw : Strategy
-surw = record { pick = surw_pick; counts_down = true; wants_every = false }
+surw = record { pick = surw_pick; counts_down = true; wants_every = false; asked = None }

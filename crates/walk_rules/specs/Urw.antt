@@ -1,5 +1,5 @@
 -- URW: one selected draw picks a place in the bag of the numbers left, kept to the threads that can go on.
-use Rattle.std.specs.Prelude.{ℕ, List, [], ◌∷◌, sum, true}
+use Rattle.std.specs.Prelude.{None, ℕ, List, [], ◌∷◌, sum, true}
 use Rattle.draw_split.specs.Bag.{pick}
 use Rattle.seed_draws.specs.Answers.{Answering}
 use Rattle.walk_rules.specs.declared.seen.Seen.{Seen}
@@ -25,4 +25,4 @@ urw_pick walk view selected other = record {
 }
 
 abbrev pub urw : Strategy
-urw = record { pick = urw_pick; counts_down = true; wants_every = true }
+urw = record { pick = urw_pick; counts_down = true; wants_every = true; asked = None }

@@ -1,9 +1,10 @@
 -- A walk after a pick and after a step, and the counts that are wrong.
-use Rattle.std.specs.Prelude.{◌≡◌, ℕ, ◌+◌, ◌-◌, ◌<◌, ◌==◌, ◌&&◌, not, ltb, Bool, List, All, length, slice_index, Option, None, Some, if◌then◌else◌, IsOk, IsTrue}
+use Rattle.std.specs.Prelude.{◌≡◌, ℕ, ◌+◌, ◌-◌, ◌<◌, ◌==◌, ◌&&◌, not, ltb, Bool, List, All, length, slice_index, Option, None, Some, if◌then◌else◌, IsOk, IsSomeAnd, IsTrue, slice_get}
 use Rattle.std.specs.List.{find, range_with_len}
 use Rattle.std.specs.Option.{option_map}
 use Rattle.draw_split.specs.Bag.{less_one}
 use Rattle.seed_draws.specs.Answers.{Answering, IsSource}
+use Rattle.walk_rules.specs.declared.asked.Asked.{Asked}
 use Rattle.walk_rules.specs.declared.picked.Picked.{Picked}
 use Rattle.walk_rules.specs.declared.picked.Picked.TheVariants as picked
 use Rattle.walk_rules.specs.declared.rule.Rule.{Rule}
@@ -72,11 +73,18 @@ abbrev pub GrantsAble : List Seen → Picked → Type 0
 GrantsAble view (picked.Grant thread forced) = IsTrue (is_able (seen_of view thread))
 GrantsAble view (picked.Stop fault) = Unit {0}
 
--- a strategy can pick: some thread is able, no count is wrong, and every event is selected where that is wanted
+-- where a list of entries is asked for, it has one for this step, and its thread is able
+abbrev pub AsksAble : Option (List Asked) → ℕ → List Seen → Type 0
+AsksAble None step view = Unit {0}
+AsksAble (Some list) step view = IsSomeAnd (slice_get list step) (λ entry. IsTrue (is_able (seen_of view entry.thread)))
+
+-- a strategy can pick: some thread is able, no count is wrong, every event is selected where that is wanted, and an entry
+-- that is asked for is of an able thread
 pub record CanPick (strategy : Strategy) (walk : WalkState) (view : List Seen) : Type 0 where
   pub able : 0 < length (able_threads view)
   pub right : wrong_by strategy.counts_down walk.counts walk.left view ≡ None
   pub chosen : IsTrue strategy.wants_every → AreChosen view
+  pub asked : AsksAble strategy.asked walk.steps view
 
 -- what holds of every strategy: it grants a step only where all that it asked was answered, and then to an able thread
 pub record IsStrategy (strategy : Strategy) : Type 0 where

@@ -1,9 +1,10 @@
-ghost use Rattle.std.specs.Prelude.{◌≡◌, ◌<◌, ◌≤◌, Some, length, slice_get};
+ghost use Rattle.std.specs.Prelude.{◌≡◌, ◌↔◌, ◌<◌, ◌≤◌, IfOk, IsTrue, Some, length, slice_get};
 ghost use Rattle.surw_base.specs.declared.limits.TheConstants.{STEPS};
 
 use event_class::Event;
+use std::alloc::Global;
 use std::marker::Model;
-use surw_base::ThreadNo;
+use surw_base::{OutOfMemory, ThreadNo};
 
 /// An entry that a replay asks for.
 #[derive(Clone, Copy, Debug, PartialEq, Eq)]
@@ -55,5 +56,28 @@ impl AskedList {
         ensures { slice_get self.now k ≡ Some result }
     {
         self.items[k as usize]
+    }
+
+    /// The entries.
+    pub fn as_slice(&self) -> &[Asked]
+        ensures { result.now ≡ self.now }
+    {
+        self.items.as_slice()
+    }
+
+    /// An equal list. An error comes only where memory is refused.
+    pub fn copy(&self, alloc: Global) -> Result<AskedList, OutOfMemory>
+        ensures { IfOk result (λ copy. copy ≡ self.now) }
+    {
+        let items = Vec::from_slice(alloc, self.items.as_slice())?;
+        Ok(AskedList { items })
+    }
+
+    /// Whether the two have the same entries in the same order.
+    #[tactic(auto, using(crate::proofs::AskedEqual::same_asked_lists))]
+    pub fn same(&self, other: &AskedList) -> bool
+        ensures { IsTrue result ↔ (self.now ≡ other.now) }
+    {
+        self.items.as_slice() == other.items.as_slice()
     }
 }

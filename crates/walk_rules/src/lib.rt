@@ -3,6 +3,7 @@
 
 mod announced;
 mod asked;
+mod follow;
 mod pct;
 mod picked;
 mod plain;

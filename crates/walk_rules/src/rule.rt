@@ -1,13 +1,14 @@
-ghost use Rattle.std.specs.Prelude.{◌≡◌, IfOk};
-ghost use Rattle.walk_rules.specs.Strategies.{counts_down};
+ghost use Rattle.std.specs.Prelude.{◌≡◌, ◌↔◌, IfOk, IsTrue, MatchOption, None, Some};
+ghost use Rattle.walk_rules.specs.Strategies.{asked_list, counts_down};
 
+use crate::AskedList;
 use std::alloc::Global;
 use surw_base::OutOfMemory;
 
 /// A strategy. URW and SURW are after Zhao, Wolff, Mathur and Roychoudhury, "Selectively Uniform Concurrency Testing",
 /// ASPLOS 2025; PCT is after Burckhardt, Kothari, Musuvathi and Nagarakatte, "A Randomized Scheduler with
 /// Probabilistic Guarantees of Finding Bugs", ASPLOS 2010. The details are this project's own.
-#[derive(Debug, Drop, PartialEq, Eq)]
+#[derive(Debug, Drop)]
 pub enum Rule {
     /// Every event is selected, and the next thread is picked with a weight equal to its number of events left.
     Urw,
@@ -22,11 +23,13 @@ pub enum Rule {
     },
     /// Each thread that can go on is picked with equal weight.
     Plain,
+    /// The entries of a list are asked for, one a step: a replay. No draw is asked for.
+    Follow(AskedList),
 }
 
 impl Rule {
-    // An equal rule. No rule takes memory yet.
-    pub(crate) fn copy(&self, _alloc: Global) -> Result<Rule, OutOfMemory>
+    // An equal rule.
+    pub(crate) fn copy(&self, alloc: Global) -> Result<Rule, OutOfMemory>
         ensures { IfOk result (λ copy. copy ≡ self.now) }
     {
         match self {
@@ -34,6 +37,29 @@ impl Rule {
             Rule::Surw => Ok(Rule::Surw),
             Rule::Pct { depth } => Ok(Rule::Pct { depth: *depth }),
             Rule::Plain => Ok(Rule::Plain),
+            Rule::Follow(list) => Ok(Rule::Follow(list.copy(alloc)?)),
+        }
+    }
+
+    // Whether the two are equal.
+    pub(crate) fn same(&self, other: &Rule) -> bool
+        ensures { IsTrue result ↔ (self.now ≡ other.now) }
+    {
+        match (self, other) {
+            (Rule::Urw, Rule::Urw) | (Rule::Surw, Rule::Surw) | (Rule::Plain, Rule::Plain) => true,
+            (Rule::Pct { depth }, Rule::Pct { depth: other }) => depth == other,
+            (Rule::Follow(list), Rule::Follow(other)) => list.same(other),
+            _ => false,
+        }
+    }
+
+    // The list of entries that it asks for, where it follows one.
+    pub(crate) fn asked(&self) -> Option<&AskedList>
+        ensures { MatchOption result (asked_list self.now ≡ None) (λ list. asked_list self.now ≡ Some list.now) }
+    {
+        match self {
+            Rule::Follow(list) => Some(list),
+            _ => None,
         }
     }
 
@@ -43,7 +69,7 @@ impl Rule {
     {
         match self {
             Rule::Urw | Rule::Surw => true,
-            Rule::Pct { depth: _ } | Rule::Plain => false,
+            Rule::Pct { depth: _ } | Rule::Plain | Rule::Follow(_) => false,
         }
     }
 }

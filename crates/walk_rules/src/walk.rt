@@ -1,15 +1,15 @@
-ghost use Rattle.std.specs.Prelude.{◌≡◌, ◌↔◌, ◌<◌, ◌≤◌, ◌&&◌, not, if◌then◌else◌, IsSome, IsTrue, IfOk, IfSome, None, Some, length, slice_index};
+ghost use Rattle.std.specs.Prelude.{◌≡◌, ◌↔◌, ◌<◌, ◌≤◌, ◌&&◌, not, if◌then◌else◌, IsSome, IsTrue, IfOk, IfSome, None, Some, is_some, length, slice_index};
 ghost use Rattle.surw_base.specs.declared.limits.TheConstants.{THREADS, STEPS};
 ghost use Rattle.seed_draws.specs.Answers.{after_bounds};
 ghost use Rattle.walk_rules.specs.Ranks.{AreByPriority};
 ghost use Rattle.walk_rules.specs.Seen.{able_threads};
 ghost use Rattle.walk_rules.specs.State.{new_memory, new_walk, ranked_memory};
 ghost use Rattle.walk_rules.specs.UnderPct.{IsUnderPct};
-ghost use Rattle.walk_rules.specs.Strategies.{counts_down, pick_from};
-ghost use Rattle.walk_rules.specs.Walk.{after_pick, after_done, first_wrong, wrong_of, AreChosenUnder, GrantsAble, IsDepth};
+ghost use Rattle.walk_rules.specs.Strategies.{asked_at, asked_list, counts_down, pick_from};
+ghost use Rattle.walk_rules.specs.Walk.{after_pick, after_done, first_wrong, wrong_of, AreChosenUnder, AsksAble, GrantsAble, IsDepth};
 
 use crate::ranks::Ranks;
-use crate::{Announced, Grant, Picked, Rule, Seen, pct, plain, surw, urw};
+use crate::{Announced, Asked, Grant, Picked, Rule, Seen, follow, pct, plain, surw, urw};
 use draw_split::Weights;
 use frame_links::Links;
 use seed_draws::Draws;
@@ -90,7 +90,7 @@ impl Walk {
     pub fn same(&self, other: &Walk) -> bool
         ensures { IsTrue result ↔ (self.now ≡ other.now) }
     {
-        self.rule == other.rule
+        self.rule.same(&other.rule)
             && self.counts.as_slice() == other.counts.as_slice()
             && self.steps == other.steps
             && self.left.as_slice() == other.left.as_slice()
@@ -116,8 +116,9 @@ impl Walk {
     }
 
     /// Picks the thread of the next step by the draws that its rule asks of each source. The step is the number of
-    /// steps told before; no grant waits, some thread can go on, and no thread is wrong. It stops only where a
-    /// source refuses in this call, and is then as before.
+    /// steps told before; no grant waits, some thread can go on, and no thread is wrong; where a list is
+    /// followed, it has an entry for this step, whose thread can go on. It stops only where a source refuses in this
+    /// call, and is then as before.
     #[tactic(auto, unfolding(seed_draws::specs::Answers::after_bounds))]
     pub fn pick<S: Draws, O: Draws>(
         &mut self,
@@ -133,6 +134,7 @@ impl Walk {
         requires able { 0 < length (able_threads view.now) }
         requires right { wrong_of self.old view.now ≡ None }
         requires chosen { AreChosenUnder self.old.rule view.now }
+        requires asked { AsksAble (asked_list self.old.rule) step view.now }
         ensures picked { result ≡ (pick_from S.Draws O.Draws self.old view.now selected.old other.old).picked }
         ensures walk { self.new ≡ after_pick self.old (pick_from S.Draws O.Draws self.old view.now selected.old other.old) }
         ensures selected { selected.new
@@ -142,7 +144,7 @@ impl Walk {
         ensures able { GrantsAble view.now result }
     {
         let mut intended = self.intended;
-        let picked = match self.rule {
+        let picked = match &self.rule {
             Rule::Urw => urw::pick(&self.left, view, selected),
             Rule::Surw => match surw::intend(&self.left, self.intended, selected) {
                 Ok(found) => {
@@ -152,10 +154,11 @@ impl Walk {
                 Err(fault) => Picked::Stop(fault),
             },
             Rule::Pct { depth } => match &mut self.ranks {
-                Some(ranks) => pct::pick(depth, &self.counts, step, ranks, view, selected),
+                Some(ranks) => pct::pick(*depth, &self.counts, step, ranks, view, selected),
                 None => unreachable!(),
             },
             Rule::Plain => plain::pick(view, other),
+            Rule::Follow(list) => follow::pick(list, step, view),
         };
         if let Picked::Grant { thread, forced } = picked {
             self.intended = intended;
@@ -195,6 +198,23 @@ impl Walk {
                 let counted = self.counts.left(thread);
                 Some((thread, counted, counted - self.left.left(thread)))
             }
+        }
+    }
+
+    /// Whether its rule follows a list.
+    pub fn follows(&self) -> bool
+        ensures { result ≡ is_some (asked_list self.now.rule) }
+    {
+        self.rule.asked().is_some()
+    }
+
+    /// The entry that its rule asks for at a place. None where the rule follows no list, and past the end of the list.
+    pub fn asked(&self, k: u32) -> Option<Asked>
+        ensures { result ≡ asked_at self.now.rule k }
+    {
+        match self.rule.asked() {
+            Some(list) if k < list.len() => Some(list.at(k)),
+            _ => None,
         }
     }
 
