@@ -4,6 +4,10 @@ use Rattle.std.proofs.lemmas.Bool.{eqb-true, eq-eqb, false≢true, ne_eqb}
 use Rattle.std.proofs.lemmas.List.Sums.{sum_by-cons, sum_by-set}
 use Rattle.std.specs.List.{count_by, list_any}
 
+pub positive : (n : ℕ) → n ≢ 0 → 0 < n
+positive zero some = absurd (some refl)
+positive (suc n) some = omega arith
+
 not-true : (b : Bool) → true ≡ not b → b ≡ false
 not-true false e = refl
 not-true true e = absurd (false≢true (sym e))

@@ -12,18 +12,21 @@ use Rattle.seed_draws.specs.declared.draws.Draws.{Ghosts}
 use Rattle.test_world.specs.World.{WorldState, is_enabled}
 use Rattle.walk_rules.specs.declared.picked.Picked.{Picked}
 use Rattle.walk_rules.specs.declared.picked.Picked.TheVariants as picked
+use Rattle.walk_rules.specs.declared.seen.Seen.{Seen}
 use Rattle.walk_rules.specs.declared.seen.Seen.TheVariants.{Held, Able}
 use Rattle.walk_rules.specs.Seen.{able_threads, is_able, is_announcing}
 use Rattle.walk_rules.specs.State.{WalkState}
 use Rattle.walk_rules.specs.Strategies as strategies
-use Rattle.walk_rules.specs.Strategies.{pick_from}
+use Rattle.walk_rules.specs.Strategies.{asked_at, asked_list, pick_from}
+use Rattle.walk_rules.specs.Strategy.{OnePick}
 use Rattle.walk_rules.specs.Walk.{AreChosenUnder, wrong_of}
 use Rattle.walk_rules.proofs.AbleThreads.{length-able}
-use Rattle.run_rules.specs.declared.verdict.Verdict.TheVariants.{Ended, Deadlock, WrongCount, StepLimit}
+use Rattle.run_rules.specs.declared.verdict.Verdict.{Verdict}
+use Rattle.run_rules.specs.declared.verdict.Verdict.TheVariants.{Ended, Deadlock}
 use Rattle.run_rules.specs.RuleChoice.{choice, choices, other_asked, pick_at, selected_asked, walk_at}
 use Rattle.run_rules.specs.Position.{Position, earlier, seen_at, seen_word, world_at}
 use Rattle.run_rules.specs.Setup.{Setup}
-use Rattle.run_rules.specs.Verdict.{first_of, refusal, verdict_at}
+use Rattle.run_rules.specs.Verdict.{deadlock, end_of_threads, first_of, left_over, other_than_asked, refusal, step_limit, verdict_at, wrong_count}
 use Rattle.run_rules.proofs.WholeSelection.{chosen-under}
 use Rattle.run_rules.proofs.WrongCounts.{wrong-follows}
 use Rattle.run_rules.proofs.StrategyPicks.{picks-choices}
@@ -31,14 +34,10 @@ use Rattle.pure_run.specs.declared.next.Next.{Next}
 use Rattle.pure_run.specs.declared.next.Next.TheVariants.{Due, Stopped}
 use Rattle.pure_run.specs.declared.running.Running.{Running}
 use Rattle.pure_run.specs.Core.{CoreState, is_due, last_word, position, setup_by}
-use Rattle.pure_run.specs.Decision.{bounds_by, decision, is_drawn_at, next_after, next_picked, pick_by, unless_wrong, walk_then}
+use Rattle.pure_run.specs.Decision.{IsDecidable, bounds_by, decision, is_drawn_at, next_after, next_picked, pick_by, stopped_or, walk_then, wrong_verdict}
 use Rattle.pure_run.specs.Invariant.{AreParts, IsAbleNext, IsCore, IsKept, IsRunning, next_by, next_in}
-use Rattle.pure_run.proofs.Counts.{count-any, none-counted, some-counted}
+use Rattle.pure_run.proofs.Counts.{count-any, none-counted, positive, some-counted}
 use Rattle.pure_run.proofs.Sources.{asked-more, rest-answers}
-
-positive : (n : ℕ) → (n ≡ 0 → ⊥) → 0 < n
-positive zero some = absurd (some refl)
-positive (suc n) some = omega arith
 
 -- a thread announces exactly where it has a word
 announcing-event : (chosen enabled : Bool) → is_announcing (cond enabled (Able chosen) (Held chosen)) ≡ true
@@ -63,17 +62,23 @@ none-announcing setup x = count-any is_announcing (seen_at setup x) ∙ ap not (
 none-able : (setup : Setup) (x : Position) → eqb (length (able_threads (seen_at setup x))) 0 ≡ not (list_any is_able (seen_at setup x))
 none-able setup x = ap (λ n. eqb n 0) (length-able (seen_at setup x)) ∙ count-any is_able (seen_at setup x)
 
--- the causes to stop in their order
-in-order : (step : ℕ) (wrong : Option (ℕ × ℕ × ℕ)) (words limit able : Bool) (chosen : Picked)
-    → unless_wrong step wrong (cond (not words) (Stopped Ended) (cond limit (Stopped (StepLimit step)) (cond (not able) (Stopped (Deadlock step)) (next_picked step chosen))))
-    ≡ next_by (first_of (option_map (λ (w : ℕ × ℕ × ℕ). WrongCount step w.0 w.1 w.2) wrong ∷ cond words None (Some Ended) ∷ cond limit (Some (StepLimit step)) None
-    ∷ cond able None (Some (Deadlock step)) ∷ refusal step chosen ∷ [])) chosen
-in-order step (Some wrong) words limit able chosen = refl
-in-order step None false limit able chosen = refl
-in-order step None true true able chosen = refl
-in-order step None true false false chosen = refl
-in-order step None true false true (picked.Grant thread forced) = refl
-in-order step None true false true (picked.Stop fault) = refl
+-- with the choice behind them, the causes to stop are those of the position
+in-order : (step : ℕ) (asked wrong ended limit stuck left : Option Verdict) (chosen : Picked)
+    → stopped_or (first_of (asked ∷ wrong ∷ ended ∷ limit ∷ stuck ∷ left ∷ [])) (next_picked step chosen)
+    ≡ next_by (first_of (asked ∷ wrong ∷ ended ∷ limit ∷ stuck ∷ left ∷ refusal step chosen ∷ [])) chosen
+in-order step (Some v) wrong ended limit stuck left chosen = refl
+in-order step None (Some v) ended limit stuck left chosen = refl
+in-order step None None (Some v) limit stuck left chosen = refl
+in-order step None None None (Some v) stuck left chosen = refl
+in-order step None None None None (Some v) left chosen = refl
+in-order step None None None None None (Some v) chosen = refl
+in-order step None None None None None None (picked.Grant thread forced) = refl
+in-order step None None None None None None (picked.Stop fault) = refl
+
+-- a cause that is looked for by its absence
+unless-cause : (b : Bool) (verdict : Verdict) → cond (not b) (Some verdict) None ≡ cond b None (Some verdict)
+unless-cause true verdict = refl
+unless-cause false verdict = refl
 
 module _ {S O : Type 0} (draws_s : Ghosts S) (draws_o : Ghosts O) (core : CoreState S O) (running : Running S O) where
   abbrev setup : Setup
@@ -92,27 +97,28 @@ module _ {S O : Type 0} (draws_s : Ghosts S) (draws_o : Ghosts O) (core : CoreSt
         (rest-answers draws_o core.opening.other setup.other.answers (λ bounds. refl) (other_asked setup (earlier x)) ready.answered.other i))
 
     -- so what is decided by them is what comes next there
-    decided-there : next_after (length core.journal) setup.max_steps running (pick_by draws_s draws_o running).picked
+    decided-there : next_after core running (pick_by draws_s draws_o running).picked
         ≡ next_by (verdict_at setup x) (choice setup x)
     unfolding verdict_at
     decided-there =
         let step : ℕ = length core.journal in
         let chosen : Picked = choice setup x in
-        let words : Bool = list_any is_some x.words in
-        let limit : Bool = step == setup.max_steps in
-        let able : Bool = list_any is_able (seen_at setup x) in
-        (λ i. unless_wrong step (wrong_of (ready.walk i) (ready.view i)) (cond (eqb (count_by is_announcing (ready.view i)) 0) (Stopped Ended) (cond limit (Stopped (StepLimit step))
-        (cond (eqb (length (able_threads (ready.view i))) 0) (Stopped (Deadlock step)) (next_picked step (pick-there i).picked)))))
-        ∙ (λ i. unless_wrong step (wrong_of (walk_at setup x) (seen_at setup x)) (cond (none-announcing setup x i) (Stopped Ended) (cond limit (Stopped (StepLimit step))
-        (cond (none-able setup x i) (Stopped (Deadlock step)) (next_picked step ((picks-choices setup.rule).picks setup x ready.answered i))))))
-        ∙ in-order step (wrong_of (walk_at setup x) (seen_at setup x)) words limit able chosen
-        ∙ ap (λ w. next_by (first_of (w ∷ cond words None (Some Ended) ∷ cond limit (Some (StepLimit step)) None
-        ∷ cond able None (Some (Deadlock step)) ∷ refusal step chosen ∷ [])) chosen) (wrong-follows setup x ready.made)
+        let rule = ap (λ (w : WalkState). w.rule) ready.walk in
+        let limit : Option Verdict = step_limit setup x in
+        let ended = ap (λ (b : Bool). cond b (Some Ended) None) (ap (λ (v : List Seen). eqb (count_by is_announcing v) 0) ready.view ∙ none-announcing setup x)
+        ∙ unless-cause (list_any is_some x.words) Ended in
+        let stuck = ap (λ (b : Bool). cond b (Some (Deadlock step)) None) (ap (λ (v : List Seen). eqb (length (able_threads v)) 0) ready.view ∙ none-able setup x)
+        ∙ unless-cause (list_any is_able (seen_at setup x)) (Deadlock step) in
+        let wrong = (λ i. option_map (wrong_verdict step) (wrong_of (ready.walk i) (ready.view i))) ∙ wrong-follows setup x ready.made in
+        (λ i. stopped_or (first_of (other_than_asked step x.words (ready.view i) (asked_at (rule i) step) ∷ wrong i ∷ ended i ∷ limit ∷ stuck i
+        ∷ left_over step x.words (asked_list (rule i)) ∷ [])) (next_picked step ((ap (λ (o : OnePick). o.picked) pick-there ∙ (picks-choices setup.rule).picks setup x ready.answered) i)))
+        ∙ in-order step (other_than_asked step x.words (seen_at setup x) (asked_at setup.rule step)) (wrong_count setup x) (end_of_threads x) limit (deadlock setup x)
+        (left_over step x.words (asked_list setup.rule)) chosen
 
     -- and a word while some are due
-    decision-there : decision draws_s draws_o (length core.journal) setup.max_steps running ≡ next_in setup core
+    decision-there : decision draws_s draws_o core running ≡ next_in setup core
     decision-there =
-        let there : Next = next_after (length core.journal) setup.max_steps running (pick_by draws_s draws_o running).picked in
+        let there : Next = next_after core running (pick_by draws_s draws_o running).picked in
         elim (cases_eq running.due 0) [
           | inl none ↦
               ap (λ (b : Bool). cond b Due there) (le-ltb 0 running.due (omega (arith, none)))
@@ -123,29 +129,28 @@ module _ {S O : Type 0} (draws_s : Ghosts S) (draws_o : Ghosts O) (core : CoreSt
               ∙ ap (λ (b : Bool). cond b Due (next_by (verdict_at setup x) (choice setup x))) (sym (some-counted is_due core.words (λ e. some (ready.due ∙ e))))
         ]
 
-    -- what a decision asks
-    pub record CanDecide : Type 0 where
-      pub each : length running.view ≡ length running.walk.counts
-      pub step : length core.journal ≡ running.walk.steps
-      pub free : running.walk.waiting ≡ None
-      pub chosen : AreChosenUnder running.walk.rule running.view
-
-    pub can-decide : IsKept setup core → CanDecide
+    pub can-decide : IsKept setup core → IsDecidable core running
     unfolding seen_at
-    can-decide kept = record {
-      each =
-          ap (λ v. length v) ready.view ∙ length-map x.words (seen_word (world_at setup x) setup.selection) ∙ length-map core.words last_word
-          ∙ kept.each ∙ sym kept.valid.counted ∙ sym (ap (λ (w : WalkState). length w.counts) ready.walk);
-      step = sym (ap (λ (w : WalkState). w.steps) ready.walk);
-      free = ap (λ (w : WalkState). w.waiting) ready.walk;
-      chosen =
-          subst (λ rule. AreChosenUnder rule running.view) (sym (ap (λ (w : WalkState). w.rule) ready.walk))
-          (subst (λ v. AreChosenUnder setup.rule v) (sym ready.view) (chosen-under setup.rule (world_at setup x) setup.selection x.words kept.valid.every));
-    }
+    can-decide kept =
+        let seen : length running.view ≡ length core.words =
+        ap (λ v. length v) ready.view ∙ length-map x.words (seen_word (world_at setup x) setup.selection) ∙ length-map core.words last_word in
+        record {
+          each = seen ∙ kept.each ∙ sym kept.valid.counted ∙ sym (ap (λ (w : WalkState). length w.counts) ready.walk);
+          words = sym seen;
+          few = omega (arith, kept.each, kept.valid.threads);
+          seen = ap (list_any is_announcing) ready.view ∙ announcing-words (world_at setup x) setup.selection x.words;
+          step = sym (ap (λ (w : WalkState). w.steps) ready.walk);
+          short = kept.short;
+          most = kept.valid.most;
+          free = ap (λ (w : WalkState). w.waiting) ready.walk;
+          chosen =
+              subst (λ rule. AreChosenUnder rule running.view) (sym (ap (λ (w : WalkState). w.rule) ready.walk))
+              (subst (λ v. AreChosenUnder setup.rule v) (sym ready.view) (chosen-under setup.rule (world_at setup x) setup.selection x.words kept.valid.every));
+        }
 
     -- the core after it
     pub core-decided : IsKept setup core → (next : Next) (then : Running S O)
-        → next ≡ decision draws_s draws_o (length core.journal) setup.max_steps running
+        → next ≡ decision draws_s draws_o core running
         → then.walk ≡ walk_then (is_drawn_at next) (pick_by draws_s draws_o running) running.walk
         → then.selected ≡ after_bounds draws_s running.selected (bounds_by (is_drawn_at next) (pick_by draws_s draws_o running).selected_bounds)
         → then.other ≡ after_bounds draws_o running.other (bounds_by (is_drawn_at next) (pick_by draws_s draws_o running).other_bounds)

@@ -38,7 +38,7 @@ below-limit n limit differ short = elim (cases_lt n limit) [ inl below ↦ omega
 
 -- the journal has room for the step
 pub room : (setup : Setup) (x : Position) → verdict_at setup x ≡ None → length x.journal ≤ setup.max_steps → length x.journal + 1 ≤ setup.max_steps
-room setup x going short = below-limit (length x.journal) setup.max_steps (limit-none setup x ((verdict-none setup x going).2)) short
+room setup x going short = below-limit (length x.journal) setup.max_steps (limit-none setup x ((verdict-none setup x going).short)) short
 
 -- a selected event is left for a thread that announces one
 fewer-made : (selected : Bool) (counted made : ℕ) → (selected && leb counted made) ≡ false → selected ≡ true → made < counted

@@ -73,7 +73,7 @@ verdict-of None chosen grants none = absurd (grants refl none)
 
 grants-one : (setup : Setup) (x : Position) → verdict_at setup x ≡ None → thread_of (choice setup x) ≢ None
 grants-one setup x going none =
-    let granted = refusal-none (length x.journal) (choice setup x) ((verdict-none setup x going).4) in
+    let granted = refusal-none (length x.journal) (choice setup x) ((verdict-none setup x going).granted) in
     none-some granted.thread (sym none ∙ ap thread_of granted.is)
 
 pub stops-ungranted : {S O : Type 0} (setup : Setup) (core : CoreState S O) → list_any is_due core.words ≡ false → granted_of setup core ≡ None → IsSome (verdict_of setup core)
@@ -91,7 +91,7 @@ pub stops-full : {S O : Type 0} (setup : Setup) (core : CoreState S O) → list_
 stops-full setup core said full =
     let found : Option Verdict = verdict_at setup (position core) in
     ap (λ (b : Bool). is_some (cond b None found)) said
-    ∙ is-some found (λ going. limit-none setup (position core) ((verdict-none setup (position core) going).2) full)
+    ∙ is-some found (λ going. limit-none setup (position core) ((verdict-none setup (position core) going).short) full)
 
 module _ {R S O : Type 0} (behaviour : routine.Ghosts R) (draws_s : draws.Ghosts S) (draws_o : draws.Ghosts O) (plan : Plan R S O) where
   abbrev script : Script

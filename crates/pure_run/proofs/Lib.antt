@@ -2,6 +2,7 @@ pub mod Counts
 pub mod CountsMade
 pub mod Decision
 pub mod Finish
+pub mod FirstWords
 pub mod Grant
 pub mod InlineRun
 pub mod InlineStep
@@ -16,6 +17,7 @@ pub mod Sizes
 pub mod Sources
 pub mod StepJournal
 pub mod StepRunning
+pub mod Stops
 pub mod Views
 pub mod WordJournal
 pub mod WordRunning

@@ -1,5 +1,5 @@
 -- Why the profile's run stops.
-use Rattle.std.proofs.Common.{◌≡◌, ℕ, ◌==◌, Bool, true, false, cond, List, [], ◌∷◌, length, Option, None, Some, IfSome, IsOk, Result, Ok, Err, refl, subst, ap, ◌∙◌}
+use Rattle.std.proofs.Common.{◌≡◌, ℕ, ◌==◌, Bool, true, false, cond, List, [], ◌∷◌, length, Option, None, Some, IfSome, IsOk, Result, Ok, Err, refl, subst, ap, sym, ◌∙◌}
 use Rattle.std.proofs.lemmas.Bool.{eqb-true, false≢true}
 use Rattle.seed_draws.specs.declared.draw_fault.DrawFault.{DrawFault}
 use Rattle.seed_draws.specs.Answers.{answers, with_first, without_first}
@@ -16,7 +16,9 @@ use Rattle.run_rules.specs.Run.{IsRun, Outcome}
 use Rattle.run_rules.specs.Setup.{Script, Setup}
 use Rattle.run_rules.specs.Verdict.{deadlock, end_of_threads, first_of, refusal, step_limit, verdict_at}
 use Rattle.run_rules.proofs.Scripts.{length-words}
+use Rattle.run_rules.proofs.Verdicts.{verdict-unasked}
 use Rattle.pure_run.specs.Profile.{profile_script, profile_setup}
+use Rattle.pure_run.proofs.Stops.{first-if, unless-if, where-if}
 
 -- what its verdict can be
 abbrev pub IsProfileVerdict : ℕ → Verdict → Type 0
@@ -24,19 +26,6 @@ IsProfileVerdict max_steps Ended = Unit {0}
 IsProfileVerdict max_steps (StepLimit step) = step ≡ max_steps
 IsProfileVerdict max_steps (Deadlock step) = Unit {0}
 IsProfileVerdict max_steps _ = ⊥
-
--- what holds of the first of some verdicts and of the first of the rest
-first-if : (P : Verdict → Type 0) (verdict : Option Verdict) (rest : List (Option Verdict)) → IfSome verdict P → IfSome (first_of rest) P → IfSome (first_of (verdict ∷ rest)) P
-first-if P None rest here later = later
-first-if P (Some verdict) rest here later = here
-
-unless-if : (P : Verdict → Type 0) (holds : Bool) (verdict : Verdict) → P verdict → IfSome (cond holds None (Some verdict)) P
-unless-if P true verdict is = tt
-unless-if P false verdict is = is
-
-where-if : (P : Verdict → Type 0) (holds : Bool) (verdict : Verdict) → (holds ≡ true → P verdict) → IfSome (cond holds (Some verdict) None) P
-where-if P true verdict is = is refl
-where-if P false verdict is = tt
 
 -- a seeded source answers all bounds
 first-ok : (draw : ℕ) (rest : Result (List ℕ) DrawFault) → IsOk rest → IsOk (with_first (Ok draw) rest)
@@ -56,17 +45,18 @@ granted-if P step n thread_of (Err fault) ok = absurd (false≢true ok)
 
 -- the verdict at a position of the profile's run
 pub profile-verdict : (given : Setup) (seed : ℕ) (x : Position) → IfSome (verdict_at (profile_setup given seed) x) (IsProfileVerdict given.max_steps)
-unfolding verdict_at plain_choice
+unfolding plain_choice
 profile-verdict given seed x =
     let setup : Setup = profile_setup given seed in
     let P : Verdict → Type 0 = IsProfileVerdict given.max_steps in
     let last : List (Option Verdict) = refusal (length x.journal) (choice setup x) ∷ [] in
-    first-if P (end_of_threads x) (step_limit setup x ∷ deadlock setup x ∷ last) (unless-if P _ Ended tt)
+    subst (λ (v : Option Verdict). IfSome v P) (sym (verdict-unasked setup x refl))
+    (first-if P (end_of_threads x) (step_limit setup x ∷ deadlock setup x ∷ last) (unless-if P _ Ended tt)
     (first-if P (step_limit setup x) (deadlock setup x ∷ last)
     (where-if P (length x.journal == given.max_steps) (StepLimit (length x.journal)) (λ full. eqb-true (length x.journal) given.max_steps full))
     (first-if P (deadlock setup x) last (unless-if P _ (Deadlock (length x.journal)) tt)
     (first-if P (refusal (length x.journal) (choice setup x)) []
-    (granted-if P (length x.journal) _ (plain_thread (seen_at setup x)) (answers seeded_draws (seeded seed 4) _) (always-answers (seeded seed 4) _)) tt)))
+    (granted-if P (length x.journal) _ (plain_thread (seen_at setup x)) (answers seeded_draws (seeded seed 4) _) (always-answers (seeded seed 4) _)) tt))))
 
 -- of the outcome of the profile's run
 pub outcome-verdict : (script : Script) (seed : ℕ) (outcome : Outcome) → IsRun (profile_script script seed) outcome

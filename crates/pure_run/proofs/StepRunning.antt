@@ -126,7 +126,7 @@ module _ {S O : Type 0} (draws_s : Ghosts S) (draws_o : Ghosts O) (core : CoreSt
 
   fewer : IsTrue (counts_down setup.rule) → has setup.selection entry.event ≡ true → events_made setup.selection core.journal entry.thread < get_or setup.counts entry.thread 0
   fewer counts selected =
-      made-fewer setup x entry.thread entry.event ((verdict-none setup x step.going).0) thread-within (last-event setup core entry is.kept step) counts selected
+      made-fewer setup x entry.thread entry.event ((verdict-none setup x step.going).counted) thread-within (last-event setup core entry is.kept step) counts selected
 
   -- what the calls on the way ask
   pub record CanStep : Type 0 where
@@ -145,7 +145,7 @@ module _ {S O : Type 0} (draws_s : Ghosts S) (draws_o : Ghosts O) (core : CoreSt
         left = λ counts selects.
             let rule : running.walk.rule ≡ setup.rule = ap (λ (w : WalkState). w.rule) walk-waits in
             subst (λ xs. 0 < get_or xs entry.thread 0) (sym (ap (λ (w : WalkState). w.left) walk-waits))
-            (left-some setup x entry.thread entry.event ((verdict-none setup x step.going).0) thread-within (last-event setup core entry is.kept step)
+            (left-some setup x entry.thread entry.event ((verdict-none setup x step.going).counted) thread-within (last-event setup core entry is.kept step)
             (sym (ap counts_down rule) ∙ counts) selects);
         each = each;
         watched =

@@ -1,7 +1,7 @@
 -- The journal and the words of a core after a word: the journal stands as it did.
 use Rattle.std.proofs.Common.{◌≡◌, ℕ, zero, suc, ◌+◌, ◌-◌, ◌<◌, ◌≤◌, true, List, [], ◌∷◌, ◌++◌, length, map, take, set, Option, Some, refl, ap, sym, subst, ◌∙◌, arith}
 use Rattle.std.proofs.lemmas.List.{length-set, length-take-le, map-set, take_all}
-use Rattle.std.proofs.lemmas.Option.{get_or_from_slice_get, none-some, slice_get_within}
+use Rattle.std.proofs.lemmas.Option.{get_or_from_slice_get, none-some, same_Some, slice_get_within}
 use Rattle.std.proofs.lemmas.List.Folds.{list_any_at}
 use Rattle.std.specs.List.{list_any, slice_get}
 use Rattle.event_class.specs.declared.event.Event.{Event}
@@ -13,7 +13,7 @@ use Rattle.run_rules.proofs.Prefixes.{next-at}
 use Rattle.run_rules.proofs.EarlierPositions.{map-range-same, position-again}
 use Rattle.pure_run.specs.declared.word.Word.{Word}
 use Rattle.pure_run.specs.declared.word.Word.TheVariants.{Due, Said}
-use Rattle.pure_run.specs.Core.{CoreState, after_word, is_due, last_word, position}
+use Rattle.pure_run.specs.Core.{CoreState, after_word, before_word, is_due, last_word, position}
 use Rattle.pure_run.specs.Invariant.{IsKept, IsKeptEntry}
 use Rattle.pure_run.proofs.Counts.{set-twice}
 
@@ -53,6 +53,35 @@ due-other (word ∷ words) (suc thread) event (suc other) at = due-other words t
 pub any-due : (words : List Word) (thread : ℕ) → slice_get words thread ≡ Some Due → list_any is_due words ≡ true
 any-due words thread at =
     list_any_at is_due words thread Due (slice_get_within words thread Due at) (ap is_due (get_or_from_slice_get words thread Due Due at))
+
+-- a thread that has said its word had it due before
+set-there : (words : List Word) (thread : ℕ) (word other : Word) → slice_get words thread ≡ Some word → slice_get (set words thread other) thread ≡ Some other
+set-there [] thread word other at = absurd (none-some word at)
+set-there (w ∷ ws) zero word other at = refl
+set-there (w ∷ ws) (suc thread) word other at = set-there ws thread word other at
+
+set-back : (words : List Word) (thread : ℕ) (word other : Word) → slice_get words thread ≡ Some word → set (set words thread other) thread word ≡ words
+set-back [] thread word other at = absurd (none-some word at)
+set-back (w ∷ ws) zero word other at = ap (λ first. first ∷ ws) (sym (same_Some w word at))
+set-back (w ∷ ws) (suc thread) word other at = ap (λ rest. w ∷ rest) (set-back ws thread word other at)
+
+pub due-before : {S O : Type 0} (core : CoreState S O) (thread : ℕ) (event : Option Event) → slice_get core.words thread ≡ Some (Said event)
+    → slice_get (before_word core thread).words thread ≡ Some Due
+due-before core thread event said = set-there core.words thread (Said event) Due said
+
+-- a core whose thread has said its word, before it
+pub due-again : {S O : Type 0} (core : CoreState S O) (thread : ℕ) (event : Option Event) → slice_get core.words thread ≡ Some Due
+    → before_word (after_word core thread event) thread ≡ core
+due-again core thread event due = ap (λ words. record core { words = words }) (set-back core.words thread Due (Said event) due)
+
+pub said-there : {S O : Type 0} (core : CoreState S O) (thread : ℕ) (event : Option Event) → slice_get core.words thread ≡ Some Due
+    → slice_get (after_word core thread event).words thread ≡ Some (Said event)
+said-there core thread event due = set-there core.words thread Due (Said event) due
+
+-- and with its word it is the core that it is
+pub word-again : {S O : Type 0} (core : CoreState S O) (thread : ℕ) (event : Option Event) → slice_get core.words thread ≡ Some (Said event)
+    → after_word (before_word core thread) thread event ≡ core
+word-again core thread event said = ap (λ words. record core { words = words }) (set-back core.words thread (Said event) Due said)
 
 module _ {S O : Type 0} (setup : Setup) (core : CoreState S O) (thread : ℕ) (event : Option Event)
     (kept : IsKept setup core) (due : slice_get core.words thread ≡ Some Due) where

@@ -31,6 +31,10 @@ new_core opening = record { opening = opening; journal = []; words = replicate o
 abbrev pub after_word : {S O : Type 0} → CoreState S O → ℕ → Option Event → CoreState S O
 after_word core thread event = record core { words = slice_set core.words thread (Said event) }
 
+-- a core before a thread said its word
+abbrev pub before_word : {S O : Type 0} → CoreState S O → ℕ → CoreState S O
+before_word core thread = record core { words = slice_set core.words thread Due }
+
 -- a core after an entry, whose thread has to say its word
 abbrev pub after_entry : {S O : Type 0} → CoreState S O → Entry → CoreState S O
 after_entry core entry = record core { journal = core.journal ++ entry ∷ []; words = slice_set core.words entry.thread Due }

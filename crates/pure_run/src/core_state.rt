@@ -45,7 +45,7 @@ impl<S: Draws, O: Draws> Core<S, O> {
         ensures { IfOk result (λ core. core ≡ new_core (opening_of plan.now)) }
     {
         let history = History::open(alloc, plan)?;
-        let running = Running::open(alloc, history.opening())?;
+        let running = Running::open(alloc, &history)?;
         Ok(Core { history, running })
     }
 
@@ -55,8 +55,8 @@ impl<S: Draws, O: Draws> Core<S, O> {
         requires { slice_get self.old.words thread ≡ Some Due }
         ensures { self.new ≡ after_word self.old thread event }
     {
-        self.running.say(&self.history, thread, event);
         self.history.say(thread, event);
+        self.running.say(&self.history, thread, event);
     }
 
     /// The thread that takes the next step. None exactly while a word is due and where there is a verdict.

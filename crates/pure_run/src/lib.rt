@@ -9,6 +9,7 @@ mod monitors;
 mod next;
 mod opening;
 mod profiling;
+mod replaying;
 mod run;
 mod running;
 mod view;

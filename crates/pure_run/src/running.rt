@@ -1,21 +1,20 @@
 ghost use Rattle.std.specs.Prelude.{◌≡◌, ◌<◌, ◌≤◌, IfOk, IfSome, None, Some, length, slice_get};
-ghost use Rattle.surw_base.specs.declared.limits.TheConstants.{STEPS};
 ghost use Rattle.run_rules.specs.declared.verdict.Verdict.{Verdict};
 ghost use Rattle.run_rules.specs.Setup.{IsValid};
 ghost use Rattle.seed_draws.specs.Answers.{Source, after_bounds};
 ghost use Rattle.walk_rules.specs.State.{new_walk};
-ghost use Rattle.walk_rules.specs.Walk.{AreChosenUnder};
 ghost use Rattle.pure_run.specs.declared.next.Next.TheVariants.{Stopped};
-ghost use Rattle.pure_run.specs.declared.word.Word.TheVariants.{Due};
-ghost use Rattle.pure_run.specs.Core.{new_core, after_word, after_entry, position, setup_by, granted_of, IsGrantedStep, IsStep};
-ghost use Rattle.pure_run.specs.Decision.{bounds_by, decision, is_drawn_at, pick_by, walk_then};
+ghost use Rattle.pure_run.specs.declared.word.Word.TheVariants.{Said};
+ghost use Rattle.pure_run.specs.Core.{new_core, before_word, after_entry, position, setup_by, granted_of, IsGrantedStep, IsStep};
+ghost use Rattle.pure_run.specs.Decision.{bounds_by, decision, is_drawn_at, pick_by, stop_at, walk_then, IsDecidable};
 ghost use Rattle.pure_run.specs.Finish.{outcome_at};
 ghost use Rattle.pure_run.specs.Invariant.{IsAbleNext, IsCore};
 ghost use Rattle.pure_run.specs.Opening.{setup_in};
 
 use crate::monitors::{places_at_start, watch};
+use crate::replaying::{left_over, other_than_asked};
 use crate::view::{look_after, look_at};
-use crate::{History, Next, Opening, Run};
+use crate::{History, Next, Run};
 use event_class::Event;
 use run_rules::{Entry, Verdict};
 use seed_draws::Draws;
@@ -41,11 +40,13 @@ pub struct Running<S: Draws, O: Draws> {
 
 impl<S: Draws, O: Draws> Running<S, O> {
     // The running parts of a run before its first word. Without threads the verdict is there.
-    pub(crate) fn open(alloc: Global, opening: &Opening<S, O>) -> Result<Running<S, O>, OutOfMemory>
-        requires valid { (selected others : Source) → IsValid (setup_in selected others opening.now) }
-        requires fresh { opening.now.walk ≡ new_walk opening.now.walk.rule opening.now.walk.counts }
-        ensures { IfOk result (IsCore S.Draws O.Draws (new_core opening.now)) }
+    pub(crate) fn open(alloc: Global, history: &History<S, O>) -> Result<Running<S, O>, OutOfMemory>
+        requires valid { (selected others : Source) → IsValid (setup_in selected others history.now.opening) }
+        requires fresh { history.now.opening.walk ≡ new_walk history.now.opening.walk.rule history.now.opening.walk.counts }
+        requires new { history.now ≡ new_core history.now.opening }
+        ensures { IfOk result (IsCore S.Draws O.Draws history.now) }
     {
+        let opening = history.opening();
         let world = World::new(alloc, opening.size())?;
         let failed = places_at_start(alloc, &world, opening.monitors())?;
         let walk = opening.walk().copy(alloc)?;
@@ -63,20 +64,15 @@ impl<S: Draws, O: Draws> Running<S, O> {
             failed,
             next: Next::Due,
         };
-        running.next = running.decide(0, opening.max_steps());
+        running.next = running.decide(history);
         Ok(running)
     }
 
     // What comes next: a word while some are due, else a verdict or the pick of the strategy.
     #[tactic(auto, unfolding(seed_draws::specs::Answers::after_bounds))]
-    fn decide(&mut self, step: u32, max_steps: u32) -> Next
-        requires each { length self.old.view ≡ length self.old.walk.counts }
-        requires step { step ≡ self.old.walk.steps }
-        requires short { step ≤ max_steps }
-        requires most { max_steps ≤ STEPS }
-        requires free { self.old.walk.waiting ≡ None }
-        requires chosen { AreChosenUnder self.old.walk.rule self.old.view }
-        ensures next { result ≡ decision S.Draws O.Draws step max_steps self.old }
+    fn decide(&mut self, history: &History<S, O>) -> Next
+        requires { IsDecidable history.now self.old }
+        ensures next { result ≡ decision S.Draws O.Draws history.now self.old }
         ensures walk { self.new.walk ≡ walk_then (is_drawn_at result) (pick_by S.Draws O.Draws self.old) self.old.walk }
         ensures selected { self.new.selected ≡ after_bounds S.Draws self.old.selected
             (bounds_by (is_drawn_at result) (pick_by S.Draws O.Draws self.old).selected_bounds) }
@@ -88,23 +84,10 @@ impl<S: Draws, O: Draws> Running<S, O> {
         if self.due > 0 {
             return Next::Due;
         }
-        if let Some((thread, counted, seen)) = self.walk.wrong(&self.view) {
-            return Next::Stopped(Verdict::WrongCount {
-                step,
-                thread,
-                counted,
-                seen,
-            });
+        if let Some(verdict) = self.stop(history) {
+            return Next::Stopped(verdict);
         }
-        if self.view.announcing() == 0 {
-            return Next::Stopped(Verdict::Ended);
-        }
-        if step == max_steps {
-            return Next::Stopped(Verdict::StepLimit { step });
-        }
-        if self.view.able() == 0 {
-            return Next::Stopped(Verdict::Deadlock { step });
-        }
+        let step = history.len();
         match self
             .walk
             .pick(step, &self.view, &mut self.selected, &mut self.other)
@@ -114,17 +97,48 @@ impl<S: Draws, O: Draws> Running<S, O> {
         }
     }
 
-    // The parts after the word of a thread that is due. With the last word that is due it is decided what comes next.
+    // Why the run stops before a draw is asked for, by the causes in their order.
+    fn stop(&self, history: &History<S, O>) -> Option<Verdict>
+        requires { IsDecidable history.now self.now }
+        ensures { result ≡ stop_at history.now self.now }
+    {
+        let step = history.len();
+        let words = history.words();
+        if let Some(verdict) = other_than_asked(step, words, &self.view, self.walk.asked(step)) {
+            return Some(verdict);
+        }
+        if let Some((thread, counted, seen)) = self.walk.wrong(&self.view) {
+            return Some(Verdict::WrongCount {
+                step,
+                thread,
+                counted,
+                seen,
+            });
+        }
+        if self.view.announcing() == 0 {
+            return Some(Verdict::Ended);
+        }
+        if step == history.opening().max_steps() {
+            return Some(Verdict::StepLimit { step });
+        }
+        if self.view.able() == 0 {
+            return Some(Verdict::Deadlock { step });
+        }
+        left_over(step, words, &self.walk)
+    }
+
+    // The parts after a thread has said its word, which was due. With the last word that is due it is decided what comes
+    // next.
     pub(crate) fn say(&mut self, history: &History<S, O>, thread: ThreadNo, event: Option<Event>)
-        requires core { IsCore S.Draws O.Draws history.now self.old }
-        requires due { slice_get history.now.words thread ≡ Some Due }
-        ensures { IsCore S.Draws O.Draws (after_word history.now thread event) self.new }
+        requires core { IsCore S.Draws O.Draws (before_word history.now thread) self.old }
+        requires said { slice_get history.now.words thread ≡ Some (Said event) }
+        ensures { IsCore S.Draws O.Draws history.now self.new }
     {
         let opening = history.opening();
         let seen = look_at(&self.world, opening.selection(), event);
         self.view.set(thread, seen);
         self.due -= 1;
-        self.next = self.decide(history.len(), opening.max_steps());
+        self.next = self.decide(history);
     }
 
     // The event of the thread that is granted its step, and whether the step is forced.

@@ -14,7 +14,7 @@ use Rattle.run_rules.specs.RuleChoice.{choice}
 use Rattle.run_rules.specs.Setup.{Setup}
 use Rattle.run_rules.specs.Verdict.{other_than_asked, wrong_count, end_of_threads, step_limit, deadlock, left_over, refusal, first_of, verdict_at}
 
-first-none : (verdict : Option Verdict) (rest : List (Option Verdict)) → first_of (verdict ∷ rest) ≡ None → (verdict ≡ None) × (first_of rest ≡ None)
+pub first-none : (verdict : Option Verdict) (rest : List (Option Verdict)) → first_of (verdict ∷ rest) ≡ None → (verdict ≡ None) × (first_of rest ≡ None)
 first-none None rest none = (refl, none)
 first-none (Some verdict) rest none = absurd (none-some verdict (sym none))
 
@@ -85,6 +85,24 @@ asks-nothing setup x none = record {
   asked = ap (λ list. other_than_asked (length x.journal) x.words (seen_at setup x) (entry_in list (length x.journal))) none;
   more = ap (λ list. left_over (length x.journal) x.words list) none;
 }
+
+skip-none : (a b c d last : Option Verdict) → first_of (a ∷ b ∷ c ∷ d ∷ None ∷ last ∷ []) ≡ first_of (a ∷ b ∷ c ∷ d ∷ last ∷ [])
+skip-none (Some a) b c d last = refl
+skip-none None (Some b) c d last = refl
+skip-none None None (Some c) d last = refl
+skip-none None None None (Some d) last = refl
+skip-none None None None None last = refl
+
+-- so the other causes are all
+pub verdict-unasked : (setup : Setup) (x : Position) → asked_list setup.rule ≡ None
+    → verdict_at setup x
+    ≡ first_of (wrong_count setup x ∷ end_of_threads x ∷ step_limit setup x ∷ deadlock setup x ∷ refusal (length x.journal) (choice setup x) ∷ [])
+unfolding verdict_at
+verdict-unasked setup x none =
+    let last : Option Verdict = refusal (length x.journal) (choice setup x) in
+    (λ i. first_of (other_than_asked (length x.journal) x.words (seen_at setup x) (entry_in (none i) (length x.journal)) ∷ wrong_count setup x ∷ end_of_threads x
+    ∷ step_limit setup x ∷ deadlock setup x ∷ left_over (length x.journal) x.words (none i) ∷ last ∷ []))
+    ∙ skip-none (wrong_count setup x) (end_of_threads x) (step_limit setup x) (deadlock setup x) last
 
 -- some thread has a word
 pub going-none : (x : Position) → end_of_threads x ≡ None → list_any is_some x.words ≡ true

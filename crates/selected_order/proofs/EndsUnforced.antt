@@ -14,6 +14,7 @@ use Rattle.walk_rules.specs.declared.seen.Seen.{Seen}
 use Rattle.walk_rules.specs.declared.seen.Seen.TheVariants.{Over}
 use Rattle.walk_rules.specs.Seen.{is_able, seen_of}
 use Rattle.run_rules.specs.declared.entry.Entry.{Entry}
+use Rattle.walk_rules.specs.Strategies.{asked_list}
 use Rattle.run_rules.specs.declared.verdict.Verdict.{Verdict}
 use Rattle.run_rules.specs.declared.verdict.Verdict.TheVariants.{Ended, Deadlock, StepLimit}
 use Rattle.run_rules.specs.LegalJournal.{IsLegal}
@@ -25,7 +26,7 @@ use Rattle.run_rules.specs.Verdict.{verdict_at, wrong_count, end_of_threads, ste
 use Rattle.run_rules.proofs.Prefixes.{AtEach, at-whole, each-more, each-none, each-prefix}
 use Rattle.run_rules.proofs.RunPrefixes.{GoesOnAfter, going-prefixes}
 use Rattle.run_rules.proofs.Scripts.{legal-prefix, length-words, word-announcement}
-use Rattle.run_rules.proofs.Verdicts.{grant-parts, none-verdict, verdict-none}
+use Rattle.run_rules.proofs.Verdicts.{asks-nothing, grant-parts, none-verdict, verdict-none, verdict-unasked}
 use Rattle.run_rules.proofs.Words.{some-able, has-word, length-seen}
 use Rattle.selected_order.specs.SelectedOrder.{IsUnforced}
 use Rattle.selected_order.specs.SurwScript.{HasEnded, IsTame, EndsUnforced}
@@ -95,7 +96,7 @@ prefix-next script journal is legal prefixes k entry at before =
     let prefix : List Entry = take k journal in
     let x : Position = position_of script prefix in
     let goes = prefixes k entry at in
-    let going = able-announcing script prefix (verdict-none setup x goes.going).3 in
+    let going = able-announcing script prefix (verdict-none setup x goes.going).able in
     let earlier = each-prefix (GoesOnAfter script) journal k prefixes in
     let free : IsFreeChoice setup x = free-after script prefix is (legal-prefix script journal k legal) earlier before.order going in
     let chosen = sym (choice-is setup x is.rule) ∙ goes.chosen in
@@ -127,7 +128,6 @@ none-wrong script journal rule tame legal =
 -- where each thread has ended
 pub verdict-ended : (script : Script) (journal : List Entry) → script.setup.rule ≡ Surw → IsTame script → IsLegal script journal → HasEnded script journal
     → verdict_at script.setup (position_of script journal) ≡ Some Ended
-unfolding verdict_at
 verdict-ended script journal rule tame legal none =
     let setup : Setup = script.setup in
     let x : Position = position_of script journal in
@@ -136,7 +136,8 @@ verdict-ended script journal rule tame legal none =
     list_any_none is_some x.words (All-from_get_or (λ word. is_some word ≡ false) x.words None (λ k lt.
     let below : k < setup.threads = omega (arith, lt, length-words script journal) in
     ap is_some (word-announcement script journal k below ∙ none k below))) in
-    ap (λ v. first_of (v ∷ end_of_threads x ∷ later)) (none-wrong script journal rule tame legal)
+    verdict-unasked setup x (ap asked_list rule)
+    ∙ ap (λ v. first_of (v ∷ end_of_threads x ∷ later)) (none-wrong script journal rule tame legal)
     ∙ ap (λ v. first_of (v ∷ later)) (cond-false (list_any is_some x.words) None (Some Ended) words)
 
 -- where one announces an event
@@ -154,11 +155,16 @@ verdict-going script journal rule tame legal going free =
     let word : list_any is_some x.words ≡ true =
     list_any_at is_some x.words going.thread None (omega (arith, going.within, length-words script journal))
     (ap is_some (word-announcement script journal going.thread going.within ∙ going.is)) in
-    none-verdict setup x (none-wrong script journal rule tame legal)
-    (cond-true (list_any is_some x.words) None (Some Ended) word)
-    (cond-false (length journal == setup.max_steps) (Some (StepLimit (length journal))) None (ne_eqb (length journal) setup.max_steps shorter))
-    (announcing-able script journal tame legal going)
-    (ap (refusal (length journal)) (choice-is setup x rule ∙ free.chosen))
+    let nothing = asks-nothing setup x (ap asked_list rule) in
+    none-verdict setup x (record {
+      asked = nothing.asked;
+      counted = none-wrong script journal rule tame legal;
+      going = cond-true (list_any is_some x.words) None (Some Ended) word;
+      short = cond-false (length journal == setup.max_steps) (Some (StepLimit (length journal))) None (ne_eqb (length journal) setup.max_steps shorter);
+      able = announcing-able script journal tame legal going;
+      more = nothing.more;
+      granted = ap (refusal (length journal)) (choice-is setup x rule ∙ free.chosen);
+    })
 
 pub ends-unforced : EndsUnforced
 ends-unforced script journal rule tame selected other all never run =

@@ -16,4 +16,4 @@ no-deadlock script journal legal going k lt =
     let next : IsNext journal k = next-at journal k lt in
     let here = script-again script journal k legal (omega (arith, lt)) in
     let parts = verdict-none script.setup (position_of script (take k journal)) (going k next.item next.there).going in
-    subst (λ x. deadlock script.setup x ≡ None) (sym here) parts.3
+    subst (λ x. deadlock script.setup x ≡ None) (sym here) parts.able

@@ -12,7 +12,7 @@ use Rattle.walk_rules.specs.declared.picked.Picked.TheVariants.{Grant, Stop}
 use Rattle.walk_rules.specs.declared.rule.Rule.{Rule}
 use Rattle.walk_rules.specs.declared.rule.Rule.TheVariants.{Surw}
 use Rattle.walk_rules.specs.Seen.{is_able}
-use Rattle.walk_rules.specs.Strategies.{counts_down}
+use Rattle.walk_rules.specs.Strategies.{asked_list, counts_down}
 use Rattle.run_rules.specs.declared.verdict.Verdict.{Verdict}
 use Rattle.run_rules.specs.declared.verdict.Verdict.TheVariants.{Ended, Deadlock, WrongCount, StepLimit}
 use Rattle.run_rules.specs.EventsMade.{events_made}
@@ -21,6 +21,7 @@ use Rattle.run_rules.specs.Position.{Position, seen_at}
 use Rattle.run_rules.specs.RuleChoice.{choice}
 use Rattle.run_rules.specs.Setup.{Setup}
 use Rattle.run_rules.specs.Verdict.{verdict_at, wrong_count, is_miscounted, first_miscounted, end_of_threads, step_limit, deadlock, refusal, first_of, miscount}
+use Rattle.run_rules.proofs.Verdicts.{verdict-unasked}
 use Rattle.run_rules.proofs.GrantedChoices.{is-counted}
 use Rattle.run_rules.proofs.Numbers.{left-any}
 
@@ -52,11 +53,10 @@ wrong-is setup x rule = ap (λ (r : Rule). cond (counts_down r) (option_map (mis
 -- it has ended: no count is wrong, and no thread has a word
 pub ended-parts : (setup : Setup) (x : Position) → setup.rule ≡ Surw → verdict_at setup x ≡ Some Ended
     → (first_miscounted setup x ≡ None) × (list_any is_some x.words ≡ false)
-unfolding verdict_at
 ended-parts setup x rule is =
     let n : ℕ = length x.journal in
     let later : List (Option Verdict) = step_limit setup x ∷ deadlock setup x ∷ refusal n (choice setup x) ∷ [] in
-    let cut = sym (ap (λ wrong. first_of (wrong ∷ end_of_threads x ∷ later)) (wrong-is setup x rule)) ∙ is in
+    let cut = sym (ap (λ wrong. first_of (wrong ∷ end_of_threads x ∷ later)) (wrong-is setup x rule)) ∙ sym (verdict-unasked setup x (ap asked_list rule)) ∙ is in
     let counts = λ (thread : ℕ). get_or setup.counts thread 0 in
     let made = λ (thread : ℕ). events_made setup.selection x.journal thread in
     let counted = none-wrong counts made n (first_miscounted setup x) (end_of_threads x ∷ later) cut in

@@ -8,7 +8,7 @@ use Rattle.walk_rules.specs.declared.picked.Picked.TheVariants.{Grant}
 use Rattle.walk_rules.specs.declared.rule.Rule.{Rule}
 use Rattle.walk_rules.specs.declared.rule.Rule.TheVariants.{Surw, Urw}
 use Rattle.walk_rules.specs.Granted.{granted_at}
-use Rattle.walk_rules.specs.Strategies.{counts_down}
+use Rattle.walk_rules.specs.Strategies.{asked_list, counts_down}
 use Rattle.walk_rules.specs.Urw.{urw_thread}
 use Rattle.run_rules.specs.declared.entry.Entry.{Entry}
 use Rattle.run_rules.specs.declared.verdict.Verdict.{Verdict}
@@ -23,7 +23,7 @@ use Rattle.run_rules.specs.Verdict.{first_miscounted, wrong_count, end_of_thread
 use Rattle.run_rules.proofs.Prefixes.{AtEach, at-prefix, at-whole, each-prefix}
 use Rattle.run_rules.proofs.RunPrefixes.{GoesOnAfter, prefixes-going, going-prefixes}
 use Rattle.run_rules.proofs.Scripts.{legal-prefix}
-use Rattle.run_rules.proofs.Verdicts.{grant-parts, verdict-none}
+use Rattle.run_rules.proofs.Verdicts.{grant-parts, verdict-none, verdict-unasked}
 use Rattle.run_rules.proofs.WrongCounts.{none-miscounted}
 use Rattle.selected_order.specs.SurwIsUrw.{SurwIsUrw, setup_under, script_under}
 use Rattle.selected_order.proofs.EndsInOrder.{choice-is}
@@ -74,13 +74,15 @@ urw-under setup x = refl
 verdict-same : (setup : Setup) (x : Position) → setup.rule ≡ Surw
     → (first_miscounted setup x ≡ None → deadlock setup x ≡ None → surw_choice setup x ≡ urw_choice setup x)
     → verdict_at setup x ≡ verdict_at (setup_under Urw setup) x
-unfolding verdict_at seen_at urw_choice
+unfolding seen_at urw_choice
 verdict-same setup x rule same =
     let n : ℕ = length x.journal in
     let wrong : Option Verdict = option_map (miscount setup x) (first_miscounted setup x) in
-    (λ i. first_of (wrong-is setup x rule i ∷ end_of_threads x ∷ step_limit setup x ∷ deadlock setup x ∷ refusal n (choice-is setup x rule i) ∷ []))
+    verdict-unasked setup x (ap asked_list rule)
+    ∙ (λ i. first_of (wrong-is setup x rule i ∷ end_of_threads x ∷ step_limit setup x ∷ deadlock setup x ∷ refusal n (choice-is setup x rule i) ∷ []))
     ∙ last-same wrong (end_of_threads x) (step_limit setup x) (deadlock setup x) (refusal n (surw_choice setup x)) (refusal n (urw_choice setup x))
     (λ counted more short able. ap (refusal n) (same (none-counted setup x rule (wrong-is setup x rule ∙ counted)) able))
+    ∙ sym (verdict-unasked (setup_under Urw setup) x refl)
 
 -- ---- one prefix after another
 
@@ -100,9 +102,9 @@ step-next script journal is legal prefixes k entry at step =
     let x : Position = position_of script prefix in
     let goes = prefixes k entry at in
     let parts = verdict-none setup x goes.going in
-    let counted = none-counted setup x is.rule parts.0 in
+    let counted = none-counted setup x is.rule parts.counted in
     let before : IsLegal script prefix = legal-prefix script journal k legal in
-    let same = same-at script prefix is before (each-prefix (GoesOnAfter script) journal k prefixes) step counted parts.3 in
+    let same = same-at script prefix is before (each-prefix (GoesOnAfter script) journal k prefixes) step counted parts.able in
     let free = urw-free setup x entry.thread entry.forced (sym same ∙ sym (choice-is setup x is.rule) ∙ goes.chosen) in
     stepwise-more script prefix entry is.every before counted (legal k entry at).announced free step
 
@@ -132,7 +134,7 @@ urw-prefixes script journal is legal prefixes k entry at =
     let same = same-at script prefix is (legal-prefix script journal k legal) (each-prefix (GoesOnAfter script) journal k prefixes) step in
     record {
       going = sym (verdict-same setup x is.rule same) ∙ goes.going;
-      chosen = urw-under setup x ∙ sym (same (none-counted setup x is.rule parts.0) parts.3) ∙ sym (choice-is setup x is.rule) ∙ goes.chosen;
+      chosen = urw-under setup x ∙ sym (same (none-counted setup x is.rule parts.counted) parts.able) ∙ sym (choice-is setup x is.rule) ∙ goes.chosen;
     }
 
 pub surw-is-urw : SurwIsUrw

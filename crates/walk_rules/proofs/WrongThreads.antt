@@ -6,7 +6,7 @@ use Rattle.std.proofs.lemmas.List.FromFn.{get_or-range_with_len, length-range_wi
 use Rattle.std.proofs.lemmas.Option.{none-some}
 use Rattle.std.specs.List.{All, find, range_with_len}
 use Rattle.std.specs.Option.{option_map}
-use Rattle.walk_rules.specs.Seen.{first_announcing, is_able, is_announcing, is_chosen, seen_of, able_threads, kept_to_able}
+use Rattle.walk_rules.specs.Seen.{is_able, is_announcing, is_chosen, seen_of, able_threads, kept_to_able}
 use Rattle.walk_rules.specs.Urw.{urw_bound}
 use Rattle.walk_rules.specs.Walk.{is_wrong, first_wrong, wrong_by, AreChosen}
 use Rattle.walk_rules.specs.declared.seen.Seen.{Seen}
@@ -51,7 +51,7 @@ none-passes test first (suc n) none (suc j) lt =
     ap test next ∙ none-passes test (first + 1) n rest j (omega arith)
 
 -- the least number below another that passes, and where none does
-first-passes : (test : ℕ → Bool) (n k : ℕ) → k < n → ((j : ℕ) → j < k → test j ≡ false) → test k ≡ true → find test (range_with_len 0 n) ≡ Some k
+pub first-passes : (test : ℕ → Bool) (n k : ℕ) → k < n → ((j : ℕ) → j < k → test j ≡ false) → test k ≡ true → find test (range_with_len 0 n) ≡ Some k
 first-passes test n k lt before here =
     let same : 0 + k ≡ k = omega arith in
     find-at test 0 n k lt
@@ -59,7 +59,7 @@ first-passes test n k lt before here =
     (ap test same ∙ here)
     ∙ ap Some same
 
-passes-none : (test : ℕ → Bool) (n : ℕ) → ((j : ℕ) → j < n → test j ≡ false) → find test (range_with_len 0 n) ≡ None
+pub passes-none : (test : ℕ → Bool) (n : ℕ) → ((j : ℕ) → j < n → test j ≡ false) → find test (range_with_len 0 n) ≡ None
 passes-none test n none =
     find-none test (range_with_len 0 n) (λ j lt.
     let within : j < n = omega (arith, lt, length-range_with_len 0 n) in
@@ -87,21 +87,6 @@ first-wrong-none left view none = passes-none (wrong_at left view) (length view)
 
 -- what the pass over the threads finds
 pub ruleset firsts = (first-wrong-at, first-wrong-none)
-
--- whether this thread announces an event
-abbrev pub announcing_at : List Seen → ℕ → Bool
-announcing_at view thread = is_announcing (get_or view thread Over)
-
--- the least thread that announces an event
-pub first-announcing-at : (view : List Seen) (thread : ℕ) → thread < length view
-    → ((j : ℕ) → j < thread → announcing_at view j ≡ false) → announcing_at view thread ≡ true → first_announcing view ≡ Some thread
-first-announcing-at view thread lt before here = first-passes (announcing_at view) (length view) thread lt before here
-
--- no thread announces one
-pub first-announcing-none : (view : List Seen) → ((j : ℕ) → j < length view → announcing_at view j ≡ false) → first_announcing view ≡ None
-first-announcing-none view none = passes-none (announcing_at view) (length view) none
-
-pub ruleset announcing_firsts = (first-announcing-at, first-announcing-none)
 
 -- where none is found no thread is wrong
 pub none-wrong : (left : List ℕ) (view : List Seen) → first_wrong left view ≡ None → (thread : ℕ) → thread < length view → wrong_at left view thread ≡ false

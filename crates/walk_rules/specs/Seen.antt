@@ -1,6 +1,6 @@
 -- What a strategy sees of the threads.
-use Rattle.std.specs.Prelude.{ℕ, Bool, true, false, List, [], ◌∷◌, length, Option, slice_index_or, if◌then◌else◌}
-use Rattle.std.specs.List.{filter, find, range_with_len}
+use Rattle.std.specs.Prelude.{ℕ, Bool, true, false, List, [], ◌∷◌, length, slice_index_or, if◌then◌else◌}
+use Rattle.std.specs.List.{filter, range_with_len}
 use Rattle.walk_rules.specs.declared.seen.Seen.{Seen}
 use Rattle.walk_rules.specs.declared.seen.Seen.TheVariants.{Over, Held, Able}
 
@@ -27,10 +27,6 @@ seen_of view thread = slice_index_or view thread Over
 -- the threads that can go on, rising
 unfoldable pub able_threads : List Seen → List ℕ
 able_threads view = filter (λ thread. is_able (seen_of view thread)) (range_with_len 0 (length view))
-
--- the least thread that announces an event
-abbrev pub first_announcing : List Seen → Option ℕ
-first_announcing view = find (λ thread. is_announcing (seen_of view thread)) (range_with_len 0 (length view))
 
 -- some numbers with 0 for each thread that can't go on
 unfoldable pub kept_to_able : List ℕ → List Seen → List ℕ

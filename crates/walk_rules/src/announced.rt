@@ -2,7 +2,7 @@ ghost use Rattle.std.specs.Prelude.{◌≡◌, ◌<◌, ◌≤◌, length, repli
 ghost use Rattle.std.specs.List.{count_by};
 ghost use Rattle.surw_base.specs.declared.limits.TheConstants.{THREADS};
 ghost use Rattle.walk_rules.specs.declared.seen.Seen.TheVariants.{Over};
-ghost use Rattle.walk_rules.specs.Seen.{is_able, is_announcing, first_announcing, seen_of, able_threads};
+ghost use Rattle.walk_rules.specs.Seen.{is_able, is_announcing, seen_of, able_threads};
 
 use crate::Seen;
 use arrayvec::ArrayVec;
@@ -92,13 +92,6 @@ impl Announced {
         self.able
     }
 
-    /// The least thread that announces an event. None where each has ended.
-    pub fn first_announcing(&self) -> Option<ThreadNo>
-        ensures { result ≡ first_announcing self.now }
-    {
-        first_announcing(self.as_slice())
-    }
-
     // What is seen of each thread, in order.
     pub(crate) fn as_slice(&self) -> &[Seen]
         ensures same { result.now ≡ self.now }
@@ -106,18 +99,4 @@ impl Announced {
     {
         self.seen.as_slice()
     }
-}
-
-// The least thread that announces an event.
-#[tactic(auto, using(crate::proofs::WrongThreads::announcing_firsts))]
-fn first_announcing(view: &[Seen]) -> Option<ThreadNo>
-    requires { length view.now ≤ THREADS }
-    ensures { result ≡ first_announcing view.now }
-{
-    for (thread, seen) in view.iter().enumerate() {
-        if seen.is_announcing() {
-            return Some(ThreadNo::new(thread as u8).unwrap());
-        }
-    }
-    None
 }

@@ -12,5 +12,5 @@ open-requires g c =
 
 pub open-requires-2-clause-valid : goal.open-requires-2-clause-valid
 open-requires-2-clause-valid g c selected others =
-    subst (λ opening. IsValid (setup_in selected others opening)) (sym (c.opening.ensures ∙ ap (λ h. h.opening) c.in_ok-history.ensures))
+    subst (λ opening. IsValid (setup_in selected others opening)) (sym (ap (λ h. h.opening) c.in_ok-history.ensures))
     (c.requires.valid selected others)
