@@ -4,6 +4,7 @@ pub mod Chosen
 pub mod Counts
 pub mod Draws
 pub mod Faults
+pub mod FollowPlan
 pub mod Flusher
 pub mod Keys
 pub mod LogWriter

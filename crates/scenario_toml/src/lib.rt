@@ -11,6 +11,7 @@ mod keys;
 mod name_text;
 mod planning;
 mod read;
+mod replaying;
 mod scenario;
 mod strategy;
 mod watch;
