@@ -1,6 +1,6 @@
 -- Where an entry is asked for and there is no verdict: its thread announces its event and is able.
-use Rattle.std.proofs.Common.{◌≡◌, ℕ, ◌&&◌, ◌<◌, Bool, true, false, cond, IsTrue, IsSomeAnd, List, length, get_or, Option, None, Some, is_some, refl, ap, sym, subst, ◌∙◌, inl, inr, arith}
-use Rattle.std.proofs.lemmas.Bool.{cases_Bool, cases_lt, false≢true, le-ltb, lt-ltb}
+use Rattle.std.proofs.Common.{◌≡◌, ℕ, ◌&&◌, Bool, true, false, cond, IsTrue, IsSomeAnd, List, length, get_or, Option, None, Some, is_some, ap, sym, ◌∙◌, inl, inr, arith}
+use Rattle.std.proofs.lemmas.Bool.{cases_Bool, cases_lt, false≢true, le-ltb}
 use Rattle.std.proofs.lemmas.Option.{none-some, slice_get_cases}
 use Rattle.std.proofs.lemmas.List.{get_or_default}
 use Rattle.std.proofs.lemmas.List.Folds.{Any-from_list_any}
@@ -18,7 +18,7 @@ use Rattle.run_rules.specs.declared.verdict.Verdict.TheVariants as verdict
 use Rattle.run_rules.specs.declared.verdict.Verdict.TheVariants.{Left}
 use Rattle.run_rules.specs.Position.{Position, seen_at}
 use Rattle.run_rules.specs.Setup.{Setup}
-use Rattle.run_rules.specs.Verdict.{can_make, end_of_threads, first_with_word, is_word, left_over, other_than_asked}
+use Rattle.run_rules.specs.Verdict.{can_make, first_with_word, is_word, left_over, other_than_asked}
 use Rattle.run_rules.proofs.Verdicts.{HasNoVerdict, going-none}
 
 -- an entry that can be made is of an able thread

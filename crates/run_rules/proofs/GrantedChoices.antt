@@ -1,9 +1,6 @@
 -- The choice where the run goes on: it is granted, to a thread that is able.
-use Rattle.std.proofs.Common.{◌≡◌, ℕ, zero, suc, ◌+◌, ◌<◌, ◌≤◌, Bool, true, false, cond, IsTrue, IsOk, is_ok, List, [], ◌∷◌, ◌++◌, length, get_or, Option, None, Some, refl, ap, sym, subst, ◌∙◌, arith}
+use Rattle.std.proofs.Common.{◌≡◌, ℕ, zero, suc, ◌+◌, ◌<◌, ◌≤◌, Bool, false, IsTrue, IsOk, is_ok, List, [], ◌∷◌, ◌++◌, length, get_or, None, ap, sym, subst, ◌∙◌, arith}
 use Rattle.std.proofs.lemmas.List.{flat_map_more}
-use Rattle.std.proofs.lemmas.List.FromFn.{get_or-range_with_len, length-range_with_len}
-use Rattle.std.proofs.lemmas.Option.{none-some}
-use Rattle.std.specs.List.{find, range_with_len}
 use Rattle.seed_draws.specs.Answers.{IsSource, answers_after}
 use Rattle.seed_draws.proofs.Asked.{after-ok, has-draws, source-after}
 use Rattle.walk_rules.specs.declared.picked.Picked.TheVariants.{Grant}

@@ -1,7 +1,5 @@
 -- A replay of a journal: the same world, threads, monitors and step limit, under the rule that asks for its entries.
-use Rattle.std.specs.Prelude.{◌≡◌, ℕ, ◌≤◌, false, List, [], ◌∷◌, length, map, Option, Some}
-use Rattle.event_class.specs.declared.event.Event.{Event}
-use Rattle.test_world.specs.World.{WorldState}
+use Rattle.std.specs.Prelude.{◌≡◌, ℕ, ◌≤◌, false, List, [], ◌∷◌, length, map, Option, None, Some}
 use Rattle.walk_rules.specs.declared.asked.Asked.{Asked}
 use Rattle.walk_rules.specs.declared.rule.Rule.TheVariants.{Follow}
 use Rattle.run_rules.specs.declared.entry.Entry.{Entry}
@@ -12,6 +10,10 @@ use Rattle.run_rules.specs.Position.{Position, position_of, world_at}
 use Rattle.run_rules.specs.Run.{IsRunJournal}
 use Rattle.run_rules.specs.Setup.{Script}
 use Rattle.run_rules.specs.Verdict.{deadlock, end_of_threads, first_of, left_over, step_limit, verdict_at}
+
+-- no thread past the others says anything
+abbrev pub SpeaksWithin : Script → Type 0
+SpeaksWithin script = (thread : ℕ) (replies : List ℕ) → script.setup.threads ≤ thread → script.says thread replies ≡ None
 
 -- the thread and the event of each entry
 abbrev pub entries_asked : List Entry → List Asked

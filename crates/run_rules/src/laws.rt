@@ -1,6 +1,7 @@
 //! What holds of every plan. A law does nothing when it is called: its contract is the law.
 
 ghost use Rattle.run_rules.specs.Plan.{script_of, IsValidPlan};
+ghost use Rattle.run_rules.specs.Replay.{ReplaysRepeat};
 ghost use Rattle.run_rules.specs.Run.{OneRun, OneOutcome};
 ghost use Rattle.run_rules.specs.Setup.{Script};
 
@@ -21,3 +22,13 @@ pub fn one_run<R: Routine, S: Draws, O: Draws>(plan: &Plan<R, S, O>)
 pub fn one_outcome()
     ensures { (script : Script) → OneOutcome script }
 {}
+
+/// A replay of a legal journal within the step limit repeats it, whatever the replay's selection, counts and draws: its
+/// run has the same threads, events and replies, with no entry forced, and leads to the same world and last words. It
+/// stops at the end of its list: each thread has ended, the step limit is reached, no event is enabled, or a thread goes
+/// on. Where the journal is the run of the plan and its verdict is one of the first three, the replay has that verdict.
+pub fn replay_repeats<R: Routine, S: Draws, O: Draws>(plan: &Plan<R, S, O>)
+    ensures { ReplaysRepeat (script_of R.Routine S.Draws O.Draws plan.now) }
+{
+    let _ = plan;
+}
