@@ -1,5 +1,5 @@
 -- A worker's list of its events and replies, and when it is that of a thread of a run.
-use Rattle.std.specs.Prelude.{◌≡◌, ℕ, ◌==◌, List, [], ◌∷◌, map, slice_get, slice_index_or, Option, None, Some}
+use Rattle.std.specs.Prelude.{◌≡◌, ℕ, ◌==◌, ◌^◌, ◌<◌, ◌≤◌, List, [], ◌∷◌, length, map, slice_get, slice_index_or, Option, None, Some}
 use Rattle.std.specs.List.{filter}
 use Rattle.event_class.specs.declared.event.Event.{Event}
 use Rattle.routine_kit.specs.declared.routine.Routine.{Ghosts}
@@ -16,6 +16,13 @@ pub record LogState (R : Type 0) : Type 0 where
 unfoldable pub Follows : {R : Type 0} → Ghosts R → R → List (Event × ℕ) → R → Type 0
 Follows behaviour start [] now = start ≡ now
 Follows behaviour start (item ∷ items) now = (behaviour.announced start ≡ Some item.0) × Follows behaviour (behaviour.after_reply start item.1) items now
+
+-- what is true of every log, where its items have this capacity: they follow from its routine, and there is room for all
+pub record IsLog {R : Type 0} (behaviour : Ghosts R) (log : LogState R) (capacity : ℕ) : Type 0 where
+  pub follows : Follows behaviour log.start log.items log.now
+  pub within : length log.items ≤ log.room
+  pub reserved : log.room ≤ capacity
+  pub small : log.room < 2 ^ 32
 
 -- the events and replies of a thread
 unfoldable pub made_by : ℕ → List Entry → List (Event × ℕ)

@@ -21,14 +21,14 @@ pub struct Log<R: Routine> {
 }
 
 impl<R: Routine> Model for Log<R> {
-    ghost use Rattle.std.specs.Prelude.{◌<◌, ◌≤◌, length, vec_capacity};
-    ghost use Rattle.gate_core.specs.Log.{LogState, Follows};
+    ghost use Rattle.std.specs.Prelude.{vec_capacity};
+    ghost use Rattle.gate_core.specs.Log.{LogState, IsLog};
 
     ghost Value = { LogState R };
 
     ghost view = { λ l. record { start = l.start.value; now = l.routine; items = l.items.items; room = l.room } };
 
-    ghost invariant = { λ l. Follows R.Routine l.start.value l.items.items l.routine × (length l.items.items ≤ l.room) × (l.room ≤ vec_capacity l.items) × (l.room < 4294967296) };
+    ghost invariant = { λ l. IsLog R.Routine (record { start = l.start.value; now = l.routine; items = l.items.items; room = l.room }) (vec_capacity l.items) };
 }
 
 impl<R: Routine> Log<R> {

@@ -104,7 +104,8 @@ impl<S: Draws, O: Draws> Running<S, O> {
     {
         let step = history.len();
         let words = history.words();
-        if let Some(verdict) = other_than_asked(step, words, &self.view, self.walk.asked(step)) {
+        let asked = self.walk.asked(step);
+        if let Some(verdict) = other_than_asked(step, words, &self.view, asked) {
             return Some(verdict);
         }
         if let Some((thread, counted, seen)) = self.walk.wrong(&self.view) {

@@ -190,5 +190,5 @@ kept-again script journal replay is verdict kept found =
 pub replays-repeat : (script : Script) → SpeaksWithin script → ReplaysRepeat script
 replays-repeat script within journal replay legal short is = (
   repeats script journal replay (record { within = within; legal = legal; short = short; is = is }),
-  λ verdict run found kept. kept-again script journal replay is verdict kept found,
+  λ verdict found kept. kept-again script journal replay is verdict kept found,
 )

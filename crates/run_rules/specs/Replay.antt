@@ -59,11 +59,11 @@ IsKeptVerdict (StepLimit step) = Unit {0}
 IsKeptVerdict (Deadlock step) = Unit {0}
 IsKeptVerdict _ = ⊥
 
--- each replay of a legal journal within the step limit repeats it; and where the journal is the run and its verdict was
--- that every thread has ended, the step limit or a deadlock, the replay has that verdict
+-- each replay of a legal journal within the step limit repeats it; and where the verdict behind the journal is that every
+-- thread has ended, the step limit or a deadlock, as it can be where the journal is the run, the replay has that verdict
 abbrev pub ReplaysRepeat : Script → Type 0
 ReplaysRepeat script =
     (journal : List Entry) (replay : Script) → IsLegal script journal → length journal ≤ script.setup.max_steps → IsReplayOf script journal replay
     → Repeats script journal replay
-    × ((verdict : Verdict) → IsRunJournal script journal → verdict_at script.setup (position_of script journal) ≡ Some verdict → IsKeptVerdict verdict
+    × ((verdict : Verdict) → verdict_at script.setup (position_of script journal) ≡ Some verdict → IsKeptVerdict verdict
     → verdict_at replay.setup (position_of replay (unforced journal)) ≡ Some verdict)

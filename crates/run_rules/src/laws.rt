@@ -26,7 +26,8 @@ pub fn one_outcome()
 /// A replay of a legal journal within the step limit repeats it, whatever the replay's selection, counts and draws: its
 /// run has the same threads, events and replies, with no entry forced, and leads to the same world and last words. It
 /// stops at the end of its list: each thread has ended, the step limit is reached, no event is enabled, or a thread goes
-/// on. Where the journal is the run of the plan and its verdict is one of the first three, the replay has that verdict.
+/// on. Where the verdict behind the journal is one of the first three, as it can be where the journal is the run of the plan, the
+/// replay has that verdict.
 pub fn replay_repeats<R: Routine, S: Draws, O: Draws>(plan: &Plan<R, S, O>)
     ensures { ReplaysRepeat (script_of R.Routine S.Draws O.Draws plan.now) }
 {

@@ -8,8 +8,9 @@ use routine_kit::Routine;
 use seed_draws::{DrawFault, Draws, Seeded};
 use std::alloc::AllocError;
 use std::test::Fail;
-use surw_base::THREADS;
+use surw_base::{THREADS, ThreadNo};
 use test_world::Monitor;
+use walk_rules::{Asked, AskedList};
 
 const FILE: &[u8] = b"max_steps = 20
 strategy = 'plain'
@@ -142,6 +143,31 @@ fn what_stands_for_the_keys_that_are_absent(rt: HostRuntime) -> Result<(), Fail>
 fn two_empty_tapes(rt: HostRuntime) -> Result<(), Fail> {
     let scenario = taken(rt.alloc(), b"[tapes]\n")?;
     let mut plan = planned(rt.alloc(), &scenario, &NOTHING)?;
+    assert_eq!(rt; plan.selected.below(1), Err(DrawFault::Short { place: 0 }));
+    assert_eq!(rt; plan.other.below(9), Ok(0));
+    Ok(())
+}
+
+#[test]
+fn a_replay_of_the_file_looks_at_neither_its_strategy_nor_its_tapes(
+    rt: HostRuntime,
+) -> Result<(), Fail> {
+    let scenario = taken(rt.alloc(), FILE)?;
+    let load = Asked {
+        thread: ThreadNo::new(1).unwrap(),
+        event: Event::Load { c: 1 },
+    };
+    let list = AskedList::new(Vec::from_slice(rt.alloc(), &[load])?);
+    let mut plan = scenario.follow_plan(rt.alloc(), list)?;
+    assert_eq!(rt; plan.walk.asked(0), Some(load));
+    assert_eq!(rt; plan.walk.counts(), [0, 0].as_slice());
+    assert_eq!(rt; (plan.world.cells, plan.max_steps), (2, 20));
+    assert_eq!(rt; plan.routines.len(), 2);
+    assert_eq!(rt;
+        plan.selection.as_slice(),
+        [Pickable::Of(Class::Cell), Pickable::LockNo(1)].as_slice()
+    );
+    assert_eq!(rt; plan.monitors.len(), 2);
     assert_eq!(rt; plan.selected.below(1), Err(DrawFault::Short { place: 0 }));
     assert_eq!(rt; plan.other.below(9), Ok(0));
     Ok(())

@@ -89,7 +89,7 @@ fn pct_lowers_the_highest_at_its_change_point(rt: HostRuntime) -> Result<(), Fai
 }
 
 #[test]
-fn asked_entries_stand_in_order(rt: HostRuntime) -> Result<(), Fail> {
+fn a_walk_asks_for_the_entries_of_its_list(rt: HostRuntime) -> Result<(), Fail> {
     let first = Asked {
         thread: ThreadNo::new(1).unwrap(),
         event: Event::Load { c: 0 },
@@ -100,6 +100,13 @@ fn asked_entries_stand_in_order(rt: HostRuntime) -> Result<(), Fail> {
     };
     let list = AskedList::new(Vec::from_slice(rt.alloc(), &[first, second])?);
     assert_eq!(rt; list.len(), 2);
-    assert_eq!(rt; list.at(1), second);
+    let walk = Walk::new(rt.alloc(), Rule::Follow(list), Weights::new(&[0, 0]))?;
+    assert!(rt; walk.follows());
+    assert_eq!(rt; walk.asked(1), Some(second));
+    assert_eq!(rt; walk.asked(2), None);
+    assert!(rt; walk.copy(rt.alloc())?.same(&walk));
+    let shorter = AskedList::new(Vec::from_slice(rt.alloc(), &[first])?);
+    let other = Walk::new(rt.alloc(), Rule::Follow(shorter), Weights::new(&[0, 0]))?;
+    assert!(rt; !other.same(&walk));
     Ok(())
 }
