@@ -1,1 +1,5 @@
 pub mod EntryTexts
+pub mod Lines
+pub mod NameTexts
+pub mod ReadLines
+pub mod SavedTexts

@@ -42,6 +42,7 @@ pub(crate) fn read_entry(line: &[u8]) -> Option<Asked>
 // The thread with which a line begins, and what is behind the space after it.
 fn read_thread(line: &[u8]) -> Option<(ThreadNo, &[u8])>
     ensures found { IfSome result (λ front. line.now ≡ decimal front.0 ++ 32 ∷ front.1.now) }
+    ensures below { IfSome result (λ front. front.0 < THREADS) }
     ensures only { (thread : ℕ) (rest : List ℕ) → thread < THREADS → line.now ≡ decimal thread ++ 32 ∷ rest
         → IsSomeAnd result (λ front. (front.0 ≡ thread) × (front.1.now ≡ rest)) }
 {

@@ -48,6 +48,7 @@ fn digits_of(name: [u8; 32]) -> [u8; 64]
 // The name that hexadecimal digits write, in either case.
 fn decoded(digits: &[u8]) -> Option<[u8; 32]>
     ensures found { IfSome result (λ name. decode_of digits.now ≡ Ok name) }
+    ensures long { IfSome result (λ name. length name ≡ 32) }
     ensures only { (name : List ℕ) → length name ≡ 32 → decode_of digits.now ≡ Ok name → result ≡ Some name }
 {
     let mut name = [0; 32];

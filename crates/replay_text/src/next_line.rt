@@ -1,4 +1,4 @@
-ghost use Rattle.std.specs.Prelude.{◌≡◌, [], ◌∷◌, MatchOption};
+ghost use Rattle.std.specs.Prelude.{◌≡◌, ◌<◌, [], ◌∷◌, length, IfSome, MatchOption};
 ghost use Rattle.replay_text.specs.Lines.{whole_lines, unfinished};
 
 use memchr::memchr;
@@ -7,6 +7,7 @@ use memchr::memchr;
 pub(crate) fn next_line(text: &[u8]) -> Option<(&[u8], &[u8])>
     ensures lines { MatchOption result (whole_lines text.now ≡ []) (λ cut. whole_lines text.now ≡ cut.0.now ∷ whole_lines cut.1.now) }
     ensures rest { MatchOption result (unfinished text.now ≡ text.now) (λ cut. unfinished text.now ≡ unfinished cut.1.now) }
+    ensures shorter { IfSome result (λ cut. length cut.1.now < length text.now) }
 {
     match memchr(b'\n', text) {
         Some(end) => Some((&text[..end], &text[end + 1..])),

@@ -1,4 +1,4 @@
-ghost use Rattle.std.specs.Prelude.{◌≡◌, ◌≤◌, ◌⊎◌, List, ℕ, length, IfOk, IfErr};
+ghost use Rattle.std.specs.Prelude.{◌≡◌, ◌≤◌, ◌⊎◌, ◌∷◌, length, IfOk, IfErr};
 ghost use Rattle.replay_text.specs.Lines.{whole_lines, unfinished};
 ghost use Rattle.replay_text.specs.Reading.{asked_of, if_ended, saved_of};
 ghost use Rattle.surw_base.specs.declared.limits.TheConstants.{STEPS};
@@ -10,7 +10,7 @@ use crate::next_line::next_line;
 use crate::{ReplayFault, Saved};
 use std::alloc::Global;
 use surw_base::STEPS;
-use walk_rules::AskedList;
+use walk_rules::{Asked, AskedList};
 
 /// The saved run of which this is the text. A fault is the first from the front.
 pub fn read_replay(alloc: Global, text: &[u8]) -> Result<Saved, ReplayFault>
@@ -29,8 +29,10 @@ pub fn read_replay(alloc: Global, text: &[u8]) -> Result<Saved, ReplayFault>
         Some(name) => name,
         None => return Err(ReplayFault::Line { number: 2 }),
     };
-    let asked = read_asked(alloc, rest)?;
-    Ok(Saved::new(name, asked))
+    match read_asked(alloc, rest) {
+        Ok(asked) => Ok(Saved::new(name, asked)),
+        Err(fault) => Err(fault),
+    }
 }
 
 // The entries of the lines behind the name, up to the end of the text.
@@ -49,24 +51,24 @@ fn read_asked(alloc: Global, text: &[u8]) -> Result<AskedList, ReplayFault>
                 entries.push(entry)?;
                 rest = after;
             }
-            None => return match end_fault(line, after, entries.len() as u32) {
-                Some(fault) => Err(fault),
-                None => Ok(AskedList::new(entries)),
-            },
+            None => return ended(entries, line, after),
         }
     }
     Err(ReplayFault::NoEnd)
 }
 
-// Why so many entries don't end with this line and what is behind it. None where they do.
-fn end_fault(line: &[u8], after: &[u8], count: u32) -> Option<ReplayFault>
-    requires { count ≤ STEPS }
+// These entries, where the line behind them is that of the end and nothing follows it.
+fn ended(entries: Vec<Asked>, line: &[u8], after: &[u8]) -> Result<AskedList, ReplayFault>
+    requires { length entries.items ≤ STEPS }
+    ensures found { IfOk result (λ asked. if_ended entries.items (line.now ∷ whole_lines after.now) (unfinished after.now) ≡ Ok asked) }
+    ensures fault { IfErr result (λ fault. if_ended entries.items (line.now ∷ whole_lines after.now) (unfinished after.now) ≡ Err fault) }
 {
+    let count = entries.len() as u32;
     if !is_end(line, count) {
-        return Some(ReplayFault::Line { number: count + 3 });
+        return Err(ReplayFault::Line { number: count + 3 });
     }
     if !after.is_empty() {
-        return Some(ReplayFault::Line { number: count + 4 });
+        return Err(ReplayFault::Line { number: count + 4 });
     }
-    None
+    Ok(AskedList::new(entries))
 }
