@@ -1,4 +1,6 @@
 pub mod EntryOf
+pub mod FirstFault
+pub mod Laws
 pub mod Lines
 pub mod NameOf
 pub mod Reading
