@@ -5,3 +5,5 @@ pub mod NameTexts
 pub mod ReadLines
 pub mod Runs
 pub mod SavedTexts
+pub mod Values
+pub mod Written

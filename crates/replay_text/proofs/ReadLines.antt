@@ -50,26 +50,32 @@ more-read text rest line after entries entry read lines same gives room =
     }
 
 -- where nothing more is an entry, what is left has to be the end
+pub asked-end : (lines behind : List (List ℕ)) (rest : List ℕ) (entries : List Asked) → entries_of lines ≡ entries → drop (length entries) lines ≡ behind
+    → length entries ≤ STEPS → asked_of lines rest ≡ if_ended entries behind rest
+unfolding asked_of
+asked-end lines behind rest entries all left few =
+    let within : nat_lt STEPS (length entries) ≡ false = grind (arith, few) in
+    ap (λ es. cond (nat_lt STEPS (length es)) (Err (TooMany (STEPS + 3))) (if_ended es (drop (length es) lines) rest)) all
+    ∙ ap (λ b. cond b (Err (TooMany (STEPS + 3))) (if_ended entries (drop (length entries) lines) rest)) within
+    ∙ ap (λ ls. if_ended entries ls rest) left
+
+-- more than the most entries are too many
+pub asked-many : (lines : List (List ℕ)) (rest : List ℕ) → STEPS < length (entries_of lines) → asked_of lines rest ≡ Err (TooMany (STEPS + 3))
+unfolding asked_of
+asked-many lines rest many =
+    ap (λ b. cond b (Err (TooMany (STEPS + 3))) (if_ended (entries_of lines) (drop (length (entries_of lines)) lines) rest)) (lt-ltb STEPS (length (entries_of lines)) many)
+
 pub stopped : (text rest : List ℕ) (entries : List Asked) → AreRead text rest entries → entries_of (whole_lines rest) ≡ []
     → asked_of (whole_lines text) (unfinished text) ≡ if_ended entries (whole_lines rest) (unfinished rest)
-unfolding asked_of
 stopped text rest entries read none =
-    let all : entries_of (whole_lines text) ≡ entries = read.joined ∙ ap (λ l. entries ++ l) none ∙ append-nil entries in
-    let within : nat_lt STEPS (length entries) ≡ false = grind (arith, read.few) in
-    ap (λ es. cond (nat_lt STEPS (length es)) (Err (TooMany (STEPS + 3))) (if_ended es (drop (length es) (whole_lines text)) (unfinished text))) all
-    ∙ ap (λ b. cond b (Err (TooMany (STEPS + 3))) (if_ended entries (drop (length entries) (whole_lines text)) (unfinished text))) within
-    ∙ (λ i. if_ended entries (read.left i) (read.same i))
+    asked-end (whole_lines text) (whole_lines rest) (unfinished text) entries (read.joined ∙ ap (λ l. entries ++ l) none ∙ append-nil entries) read.left read.few
+    ∙ ap (if_ended entries (whole_lines rest)) read.same
 
--- where the most entries are read and one follows, there are too many
 pub too-many : (text rest line after : List ℕ) (entries : List Asked) (entry : Asked) → AreRead text rest entries → whole_lines rest ≡ line ∷ whole_lines after
     → entry_of line ≡ Some entry → length entries ≡ STEPS → asked_of (whole_lines text) (unfinished text) ≡ Err (TooMany (STEPS + 3))
-unfolding asked_of
 too-many text rest line after entries entry read lines gives full =
     let all = read.joined ∙ ap (λ l. entries ++ l) (entries-some (whole_lines rest) line (whole_lines after) entry lines gives) in
-    let more : STEPS < length (entries_of (whole_lines text)) =
-    omega (arith, full, ap length all, length-append entries (entry ∷ entries_of (whole_lines after))) in
-    ap (λ b. cond b (Err (TooMany (STEPS + 3))) (if_ended (entries_of (whole_lines text)) (drop (length (entries_of (whole_lines text))) (whole_lines text)) (unfinished text)))
-    (lt-ltb STEPS (length (entries_of (whole_lines text))) more)
+    asked-many (whole_lines text) (unfinished text) (omega (arith, full, ap length all, length-append entries (entry ∷ entries_of (whole_lines after))))
 
 -- the text ends there
 pub no-end : (text rest : List ℕ) (entries : List Asked) → AreRead text rest entries → whole_lines rest ≡ [] → asked_of (whole_lines text) (unfinished text) ≡ Err NoEnd

@@ -26,7 +26,7 @@ use Rattle.replay_text.specs.SavedText.{IsEntryText, IsNameText, end_text, entry
 use Rattle.replay_text.proofs.EntryTexts.{entry-again, given-entry, none-read}
 use Rattle.replay_text.proofs.Feeds.{NoFeed, entry-lines, joined, no-feed-end, no-feed-entry, no-feed-name, nothing-left, whole-again}
 use Rattle.replay_text.proofs.NameTexts.{given-name, name-again, none-named}
-use Rattle.replay_text.proofs.ReadLines.{entries-end, entries-none}
+use Rattle.replay_text.proofs.ReadLines.{asked-end, asked-many, entries-end, entries-none}
 use Rattle.replay_text.proofs.SavedTexts.{behind-header, no-header}
 
 -- the lines of the entries at the front, what follows them, and that it begins with no entry
@@ -85,25 +85,16 @@ at-most : (most count : ℕ) → nat_lt most count ≡ false → count ≤ most
 at-most most count is = grind (arith, is)
 
 -- where no entry follows them, the end has to
-asked-end : (entries : List Asked) (behind : List (List ℕ)) (rest : List ℕ) → All IsEntry entries → length entries ≤ STEPS → entries_of behind ≡ []
+asked-front : (entries : List Asked) (behind : List (List ℕ)) (rest : List ℕ) → All IsEntry entries → length entries ≤ STEPS → entries_of behind ≡ []
     → asked_of (map entry_text entries ++ behind) rest ≡ if_ended entries behind rest
-unfolding asked_of
-asked-end entries behind rest each few none =
-    let lines = map entry_text entries ++ behind in
-    let all : entries_of lines ≡ entries = entries-again entries behind each ∙ ap (λ l. entries ++ l) none ∙ append-nil entries in
-    let within : nat_lt STEPS (length entries) ≡ false = grind (arith, few) in
-    ap (λ es. cond (nat_lt STEPS (length es)) (Err (TooMany (STEPS + 3))) (if_ended es (drop (length es) lines) rest)) all
-    ∙ ap (λ b. cond b (Err (TooMany (STEPS + 3))) (if_ended entries (drop (length entries) lines) rest)) within
-    ∙ ap (λ ls. if_ended entries ls rest) (drop_at (map entry_text entries) behind (length entries) (length-map entries entry_text))
+asked-front entries behind rest each few none =
+    asked-end (map entry_text entries ++ behind) behind rest entries (entries-again entries behind each ∙ ap (λ l. entries ++ l) none ∙ append-nil entries)
+    (drop_at (map entry_text entries) behind (length entries) (length-map entries entry_text)) few
 
-asked-many : (entries : List Asked) (behind : List (List ℕ)) (rest : List ℕ) → All IsEntry entries → STEPS < length entries
+many-front : (entries : List Asked) (behind : List (List ℕ)) (rest : List ℕ) → All IsEntry entries → STEPS < length entries
     → asked_of (map entry_text entries ++ behind) rest ≡ Err (TooMany (STEPS + 3))
-unfolding asked_of
-asked-many entries behind rest each many =
-    let lines = map entry_text entries ++ behind in
-    let all = entries-again entries behind each in
-    let more : STEPS < length (entries_of lines) = omega (arith, many, ap length all, length-append entries (entries_of behind)) in
-    ap (λ b. cond b (Err (TooMany (STEPS + 3))) (if_ended (entries_of lines) (drop (length (entries_of lines)) lines) rest)) (lt-ltb STEPS (length (entries_of lines)) more)
+many-front entries behind rest each many =
+    asked-many (map entry_text entries ++ behind) rest (omega (arith, many, ap length (entries-again entries behind each), length-append entries (entries_of behind)))
 
 -- the line of the end is that of no entry
 end-other : (count : ℕ) (entry : Asked) → IsEntryText (end_text count) entry → ⊥
@@ -151,7 +142,7 @@ text-reads saved text is same =
     let stand = text-lines saved is in
     ap saved_of same
     ∙ read-front (saved_text saved) saved.entries (end ∷ []) [] (record { name = saved.name; named = is.named; each = is.each; stand = stand })
-    ∙ ap (run_of (Some saved.name)) (asked-end saved.entries (end ∷ []) [] is.each is.few (end-none (length saved.entries) []) ∙ ended-so saved.entries [] [])
+    ∙ ap (run_of (Some saved.name)) (asked-front saved.entries (end ∷ []) [] is.each is.few (end-none (length saved.entries) []) ∙ ended-so saved.entries [] [])
 
 -- a text of such lines and no more is the run's
 lines-text : (text name : List ℕ) (entries : List Asked) → HasLines text (name_text name ∷ (map entry_text entries ++ end_text (length entries) ∷ [])) []
@@ -298,7 +289,7 @@ fault-found (Line number) text (inr (inl wrong)) =
     let count = length wrong.entries in
     read-front text wrong.entries (wrong.line ∷ wrong.lines) wrong.rest wrong.stand
     ∙ ap (run_of (Some wrong.stand.name))
-    (asked-end wrong.entries (wrong.line ∷ wrong.lines) wrong.rest wrong.stand.each wrong.few
+    (asked-front wrong.entries (wrong.line ∷ wrong.lines) wrong.rest wrong.stand.each wrong.few
     (entries-none (wrong.line ∷ wrong.lines) wrong.line wrong.lines refl (sym (none-read wrong.line wrong.no_entry)))
     ∙ ap (λ b. cond b (if_last wrong.entries wrong.lines wrong.rest) (Err (Line (count + 3)))) (other-bytes wrong.line (end_text count) (bytes_eq wrong.line (end_text count)) wrong.no_end refl))
     ∙ ap (λ n. Err (Line n)) (sym wrong.numbered)
@@ -306,14 +297,14 @@ fault-found (Line number) text (inr (inr more)) =
     let end = end_text (length more.entries) in
     read-front text more.entries (end ∷ more.lines) more.rest more.stand
     ∙ ap (run_of (Some more.stand.name))
-    (asked-end more.entries (end ∷ more.lines) more.rest more.stand.each more.few (end-none (length more.entries) more.lines)
+    (asked-front more.entries (end ∷ more.lines) more.rest more.stand.each more.few (end-none (length more.entries) more.lines)
     ∙ ended-so more.entries more.lines more.rest ∙ last-wrong more.entries more.lines more.rest more.more)
     ∙ ap (λ n. Err (Line n)) (sym more.numbered)
 fault-found (TooMany number) text (numbered, many) =
     read-front text many.entries many.lines many.rest many.stand
-    ∙ ap (run_of (Some many.stand.name)) (asked-many many.entries many.lines many.rest many.stand.each many.many) ∙ ap (λ n. Err (TooMany n)) (sym numbered)
+    ∙ ap (run_of (Some many.stand.name)) (many-front many.entries many.lines many.rest many.stand.each many.many) ∙ ap (λ n. Err (TooMany n)) (sym numbered)
 fault-found NoEnd text (inl (rest, has)) = behind-header text has.body has.first ∙ (λ i. body_of (has.whole i) (has.left i))
 fault-found NoEnd text (inr early) =
     read-front text early.entries [] early.rest early.stand
-    ∙ ap (run_of (Some early.stand.name)) (asked-end early.entries [] early.rest early.stand.each early.few (entries-end [] refl))
+    ∙ ap (run_of (Some early.stand.name)) (asked-front early.entries [] early.rest early.stand.each early.few (entries-end [] refl))
 fault-found OutOfMemory text never = absurd never

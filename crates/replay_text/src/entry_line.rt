@@ -2,6 +2,7 @@ ghost use Rattle.std.specs.Prelude.{◌≡◌, ◌<◌, ◌++◌, ◌∷◌, ℕ
 ghost use Rattle.std.specs.Fmt.{decimal};
 ghost use Rattle.surw_base.specs.Lines.{line};
 ghost use Rattle.replay_text.specs.EntryOf.{entry_of};
+ghost use Rattle.replay_text.specs.SavedRun.{IsEntry};
 ghost use Rattle.replay_text.specs.SavedText.{entry_text};
 ghost use Rattle.surw_base.specs.declared.limits.TheConstants.{THREADS};
 
@@ -11,7 +12,8 @@ use walk_rules::Asked;
 
 // Appends the line of an entry. After a refusal a part of it may stand there.
 pub(crate) fn push_entry(out: &mut Vec<u8>, entry: &Asked) -> Result<(), OutOfMemory>
-    ensures { OnOk result (out.new.items ≡ out.old.items ++ line (entry_text entry.now)) }
+    ensures ok { OnOk result (out.new.items ≡ out.old.items ++ line (entry_text entry.now)) }
+    ensures fits { OnOk result (IsEntry entry.now) }
 {
     push_number(out, u64::from(entry.thread.get()))?;
     out.push(b' ')?;

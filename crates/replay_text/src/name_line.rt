@@ -2,6 +2,7 @@ ghost use Rattle.std.specs.Prelude.{◌≡◌, ◌≤◌, ◌*◌, ◌++◌, ℕ
 ghost use Rattle.hex.specs.Hex.{decode_of, encode_lower};
 ghost use Rattle.surw_base.specs.Lines.{line};
 ghost use Rattle.replay_text.specs.NameOf.{name_of};
+ghost use Rattle.replay_text.specs.SavedRun.{IsName};
 ghost use Rattle.replay_text.specs.SavedText.{name_text};
 
 use hex::{decode_to_slice, encode_to_slice};
@@ -9,7 +10,8 @@ use surw_base::OutOfMemory;
 
 // Appends the line of a name. After a refusal a part of it may stand there.
 pub(crate) fn push_name(out: &mut Vec<u8>, name: [u8; 32]) -> Result<(), OutOfMemory>
-    ensures { OnOk result (out.new.items ≡ out.old.items ++ line (name_text name)) }
+    ensures ok { OnOk result (out.new.items ≡ out.old.items ++ line (name_text name)) }
+    ensures fits { IsName name }
 {
     out.extend_from_slice(b"scenario ")?;
     out.extend_from_slice(&digits_of(name))?;

@@ -1,6 +1,7 @@
 ghost use Rattle.std.specs.Prelude.{◌≡◌, ◌≤◌, ◌⊎◌, ◌∷◌, length, IfOk, IfErr};
 ghost use Rattle.replay_text.specs.Lines.{whole_lines, unfinished};
 ghost use Rattle.replay_text.specs.Reading.{asked_of, if_ended, saved_of};
+ghost use Rattle.replay_text.specs.SavedRun.{IsSavedRun};
 ghost use Rattle.surw_base.specs.declared.limits.TheConstants.{STEPS};
 
 use crate::end_line::is_end;
@@ -16,6 +17,7 @@ use walk_rules::{Asked, AskedList};
 pub fn read_replay(alloc: Global, text: &[u8]) -> Result<Saved, ReplayFault>
     ensures found { IfOk result (λ saved. saved_of text.now ≡ Ok saved) }
     ensures fault { IfErr result (λ fault. (fault ≡ ReplayFault.OutOfMemory) ⊎ (saved_of text.now ≡ Err fault)) }
+    ensures within { IfOk result IsSavedRun }
 {
     let body = match text.strip_prefix(b"surw-replay 1\n") {
         Some(body) => body,

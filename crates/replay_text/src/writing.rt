@@ -1,4 +1,5 @@
-ghost use Rattle.std.specs.Prelude.{◌≡◌, IfOk};
+ghost use Rattle.std.specs.Prelude.{◌≡◌, IfOk, OnOk};
+ghost use Rattle.replay_text.specs.SavedRun.{IsSavedRun};
 ghost use Rattle.replay_text.specs.SavedText.{saved_text};
 
 use crate::Saved;
@@ -11,7 +12,10 @@ use surw_base::OutOfMemory;
 /// The text of a saved run.
 #[tactic(auto, unfolding(crate::specs::SavedText::saved_text))]
 pub fn write_replay(alloc: Global, saved: &Saved) -> Result<Vec<u8>, OutOfMemory>
-    ensures { IfOk result (λ text. text.items ≡ saved_text saved.now) }
+    ensures text { IfOk result (λ text. text.items ≡ saved_text saved.now) }
+
+    // What a caller needs to know of the run so that its text is read again.
+    ensures within { OnOk result (IsSavedRun saved.now) }
 {
     let mut text = Vec::new(alloc);
     text.extend_from_slice(b"surw-replay 1\n")?;

@@ -4,6 +4,7 @@ use Rattle.std.proofs.lemmas.Slice.Eq.{strip_prefix_is}
 use Rattle.replay_text.specs.Lines.{unfinished, whole_lines}
 use Rattle.replay_text.specs.Reading.{asked_of, body_of, run_of}
 use Rattle.replay_text.specs.SavedText.{header}
+use Rattle.replay_text.proofs.Runs.{run-read}
 use Rattle.replay_text.proofs.SavedTexts.{behind-header, behind-name, no-header}
 use Rattle.replay_text.proofs.reading.read_replay.Goals as goal
 
@@ -43,3 +44,6 @@ returns-in-Err-clause-fault c =
           ∙ ap (λ name. run_of name (asked_of (whole_lines cut.1.now) (unfinished cut.1.now))) (sym c.in-Some-read_name.ensures)
           ∙ ap (run_of (Some c.in-Some-read_name.name)) is)
     ]
+
+pub returns-in-Ok-clause-within : goal.returns-in-Ok-clause-within
+returns-in-Ok-clause-within c = (run-read c.new.result c.args.text.now (returns-in-Ok-clause-found c)).0
