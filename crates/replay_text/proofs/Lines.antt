@@ -1,7 +1,7 @@
 -- The whole lines of a text, and what is left behind them.
-use Rattle.std.proofs.Common.{◌≡◌, ◌≢◌, ℕ, zero, suc, ◌<◌, ◌==◌, Bool, true, false, List, [], ◌∷◌, ◌++◌, cond, length, get_or, take, drop, refl, ap, sym, subst, ◌∙◌, arith, drop-cons}
+use Rattle.std.proofs.Common.{◌≡◌, ◌≢◌, ℕ, zero, suc, ◌<◌, ◌==◌, false, List, [], ◌∷◌, ◌++◌, length, get_or, take, drop, refl, ap, sym, ◌∙◌, arith, drop-cons}
 use Rattle.std.proofs.lemmas.Bool.{ne_eqb}
-use Rattle.std.proofs.lemmas.List.{append-nil, append_assoc, take-append-drop, drop_at}
+use Rattle.std.proofs.lemmas.List.{take-append-drop}
 use Rattle.std.specs.List.{flat_map}
 use Rattle.surw_base.specs.Lines.{line}
 use Rattle.replay_text.specs.Lines.{unfinished, whole_lines, with_byte}

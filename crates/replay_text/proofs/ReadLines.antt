@@ -1,10 +1,9 @@
 -- How far the lines behind the name are read.
-use Rattle.std.proofs.Common.{◌≡◌, ℕ, ◌+◌, ◌<◌, ◌≤◌, nat_lt, Bool, true, false, List, [], ◌∷◌, ◌++◌, cond, length, drop, Option, Some, None, Result, Ok, Err, refl, ap, sym, subst, ◌∙◌, arith, length-append}
-use Rattle.std.proofs.lemmas.Bool.{lt-ltb, false≢true}
+use Rattle.std.proofs.Common.{◌≡◌, ℕ, ◌+◌, ◌<◌, ◌≤◌, nat_lt, false, List, [], ◌∷◌, ◌++◌, cond, length, drop, Some, None, Err, refl, ap, sym, ◌∙◌, arith, length-append}
+use Rattle.std.proofs.lemmas.Bool.{lt-ltb}
 use Rattle.std.proofs.lemmas.List.{append-nil, append_assoc, drop-drop}
 use Rattle.surw_base.specs.declared.limits.TheConstants.{STEPS}
 use Rattle.walk_rules.specs.declared.asked.Asked.{Asked}
-use Rattle.replay_text.specs.declared.replay_fault.ReplayFault.{ReplayFault}
 use Rattle.replay_text.specs.declared.replay_fault.ReplayFault.TheVariants.{Line, TooMany, NoEnd}
 use Rattle.replay_text.specs.EntryOf.{entry_of}
 use Rattle.replay_text.specs.Lines.{unfinished, whole_lines}

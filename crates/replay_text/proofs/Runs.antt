@@ -1,6 +1,6 @@
 -- What a text reads as, against the table of what it can have.
 use Rattle.std.proofs.Common.{◌≡◌, ◌≢◌, ◌⊎◌, inl, inr, ℕ, ◌+◌, ◌<◌, ◌≤◌, nat_lt, nat_eq, Bool, true, false, List, [], ◌∷◌, ◌++◌, cond, length, map, drop, All, Option, Some, None, Result, Ok, Err, refl, ap, sym, subst, ◌∙◌, arith, length-append}
-use Rattle.std.proofs.lemmas.Bool.{false≢true, ltb-true, lt-ltb}
+use Rattle.std.proofs.lemmas.Bool.{false≢true, ltb-true}
 use Rattle.std.proofs.lemmas.List.{append-nil, append_assoc, drop_at, length-map}
 use Rattle.std.proofs.lemmas.List.Elements.{All-append, All-cons, All-head, All-nil, All-tail}
 use Rattle.std.proofs.lemmas.Option.{none-some}
@@ -17,12 +17,12 @@ use Rattle.walk_rules.specs.declared.asked.Asked.{Asked}
 use Rattle.replay_text.specs.declared.replay_fault.ReplayFault.{ReplayFault}
 use Rattle.replay_text.specs.declared.replay_fault.ReplayFault.TheVariants.{Header, Line, TooMany, NoEnd, OutOfMemory}
 use Rattle.replay_text.specs.EntryOf.{entry_of}
-use Rattle.replay_text.specs.FirstFault.{AreTooMany, EndsEarly, HasEntries, HasLines, IsFault, IsMoreBehind, IsWrongLine, IsWrongName}
+use Rattle.replay_text.specs.FirstFault.{HasEntries, HasLines, IsFault}
 use Rattle.replay_text.specs.Lines.{unfinished, whole_lines}
 use Rattle.replay_text.specs.NameOf.{name_of}
 use Rattle.replay_text.specs.Reading.{asked_of, body_of, entries_of, if_ended, if_last, run_of, saved_of, with_entry}
 use Rattle.replay_text.specs.SavedRun.{IsEntry, IsName, IsSavedRun, SavedRun}
-use Rattle.replay_text.specs.SavedText.{IsEntryText, IsNameText, end_text, entry_text, header, name_text, saved_text}
+use Rattle.replay_text.specs.SavedText.{IsEntryText, end_text, entry_text, header, name_text, saved_text}
 use Rattle.replay_text.proofs.EntryTexts.{entry-again, given-entry, none-read}
 use Rattle.replay_text.proofs.Feeds.{NoFeed, entry-lines, joined, no-feed-end, no-feed-entry, no-feed-name, nothing-left, whole-again}
 use Rattle.replay_text.proofs.NameTexts.{given-name, name-again, none-named}
@@ -217,25 +217,31 @@ reads-behind text name entries (this ∷ lines) rest few kept stop =
 reads-asked : (text name : List ℕ) (entries : List Asked) (behind : List (List ℕ)) (rest : List ℕ) (test : Bool) → nat_lt STEPS (length entries) ≡ test
     → AreKept text name entries behind rest → ((this : List ℕ) (lines : List (List ℕ)) → behind ≡ this ∷ lines → entry_of this ≡ None)
     → IsReading text (run_of (Some name) (cond test (Err (TooMany (STEPS + 3))) (if_ended entries behind rest)))
-reads-asked text name entries behind rest true is kept stop = (refl, record {
-  entries = entries;
-  lines = behind;
-  rest = rest;
-  stand = as-entries text name entries behind rest kept;
-  many = ltb-true STEPS (length entries) is;
-})
+reads-asked text name entries behind rest true is kept stop = (
+  refl,
+  record {
+    entries = entries;
+    lines = behind;
+    rest = rest;
+    stand = as-entries text name entries behind rest kept;
+    many = ltb-true STEPS (length entries) is;
+  },
+)
 reads-asked text name entries behind rest false is kept stop = reads-behind text name entries behind rest (at-most STEPS (length entries) is) kept stop
 
 reads-name : (text this : List ℕ) (lines : List (List ℕ)) (rest : List ℕ) (given : Option (List ℕ)) → name_of this ≡ given → HasLines text (this ∷ lines) rest
     → IsReading text (run_of given (asked_of lines rest))
 unfolding asked_of
-reads-name text this lines rest None gives has = inl (refl, record {
-  line = this;
-  lines = lines;
-  rest = rest;
-  stand = has;
-  wrong = λ name is. none-some name (sym gives ∙ name-again this name is);
-})
+reads-name text this lines rest None gives has = inl (
+  refl,
+  record {
+    line = this;
+    lines = lines;
+    rest = rest;
+    stand = has;
+    wrong = λ name is. none-some name (sym gives ∙ name-again this name is);
+  },
+)
 reads-name text this lines rest (Some name) gives has =
     let is = given-name this name gives in
     let front = front-of lines in

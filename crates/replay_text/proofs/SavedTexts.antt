@@ -1,14 +1,11 @@
 -- What a text reads as, by what stands behind its first line.
-use Rattle.std.proofs.Common.{◌≡◌, ℕ, nat_eq, Bool, true, false, List, ◌∷◌, ◌++◌, cond, length, drop, Result, Err, refl, ap, sym, ◌∙◌}
-use Rattle.std.proofs.lemmas.List.{drop_at}
+use Rattle.std.proofs.Common.{◌≡◌, ℕ, nat_eq, Bool, true, false, List, ◌∷◌, ◌++◌, cond, length, drop, Err, refl, ap, ◌∙◌}
 use Rattle.std.specs.List.{starts_with}
 use Rattle.event_class.proofs.Events.{begins-true, true-begins}
-use Rattle.replay_text.specs.declared.replay_fault.ReplayFault.{ReplayFault}
 use Rattle.replay_text.specs.declared.replay_fault.ReplayFault.TheVariants.{Header}
 use Rattle.replay_text.specs.Lines.{unfinished, whole_lines}
 use Rattle.replay_text.specs.NameOf.{name_of}
 use Rattle.replay_text.specs.Reading.{asked_of, body_of, run_of, saved_of}
-use Rattle.replay_text.specs.SavedRun.{SavedRun}
 use Rattle.replay_text.specs.SavedText.{header}
 
 -- behind the first line

@@ -1,12 +1,9 @@
 -- The texts of two runs, and what some texts read as, worked out.
-use Rattle.std.proofs.Common.{◌≡◌, ℕ, List, [], ◌∷◌, ◌++◌, length, codes, Ok, Err, refl}
+use Rattle.std.proofs.Common.{◌≡◌, ℕ, List, [], ◌∷◌, ◌++◌, codes, Ok, Err, refl}
 use Rattle.std.specs.Fmt.{digits}
-use Rattle.std.specs.List.{flat_map}
 use Rattle.hex.specs.Hex.{decode_pairs, encode_with}
-use Rattle.surw_base.specs.Lines.{line}
 use Rattle.surw_base.specs.Tokens.{tokens}
 use Rattle.event_class.specs.declared.event.Event.TheVariants.{Load, Store}
-use Rattle.walk_rules.specs.declared.asked.Asked.{Asked}
 use Rattle.replay_text.specs.declared.replay_fault.ReplayFault.TheVariants.{Header, Line, NoEnd}
 use Rattle.replay_text.specs.EntryOf.{entry_of}
 use Rattle.replay_text.specs.Lines.{unfinished, whole_lines}

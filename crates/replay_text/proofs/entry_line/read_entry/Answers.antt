@@ -1,11 +1,9 @@
-use Rattle.std.proofs.Common.{◌≡◌, ◌∙◌, Some, None, List, ℕ, [], ◌∷◌, ◌++◌, length, take, arith, ap, sym}
+use Rattle.std.proofs.Common.{◌≡◌, ◌∙◌, ℕ, [], ◌∷◌, ◌++◌, length, arith, ap, sym}
 use Rattle.std.proofs.lemmas.List.{take_all}
 use Rattle.std.proofs.lemmas.Option.{same_Some}
 use Rattle.std.specs.Fmt.{decimal}
 use Rattle.event_class.specs.declared.event.Event.{Event}
 use Rattle.event_class.specs.Event.{event_text}
-use Rattle.walk_rules.specs.declared.asked.Asked.{Asked}
-use Rattle.replay_text.specs.SavedText.{IsEntryText}
 use Rattle.replay_text.proofs.EntryTexts.{entry-again, none-read, whole-event}
 use Rattle.replay_text.proofs.entry_line.read_entry.Goals as goal
 

@@ -1,5 +1,3 @@
-use Rattle.std.proofs.Common.{Ok, Err, ◌≡◌, ◌∙◌, List, ℕ, sym}
-use Rattle.hex.specs.Hex.{decode_sized}
 use Rattle.replay_text.proofs.NameTexts.{decode-room}
 use Rattle.replay_text.proofs.name_line.decoded.Goals as goal
 

@@ -1,4 +1,4 @@
-use Rattle.std.proofs.Common.{◌≡◌, ◌∙◌, Some, None, Bool, true, false, not, List, ℕ, ◌∷◌, ◌++◌, drop, codes, ap, sym, refl}
+use Rattle.std.proofs.Common.{◌≡◌, ◌∙◌, Some, None, Bool, true, false, not, ◌++◌, drop, codes, ap, sym, refl}
 use Rattle.std.proofs.lemmas.Bool.Decides.{Decides-eqb}
 use Rattle.std.proofs.lemmas.Bool.{false≢true}
 use Rattle.std.proofs.lemmas.Option.{same_Some}

@@ -1,9 +1,7 @@
-use Rattle.std.proofs.Common.{◌≡◌, ◌∙◌, ◌<◌, ◌∷◌, ◌⊎◌, inr, Ok, Err, IfOk, IfErr, List, length, arith, ap, sym, subst}
+use Rattle.std.proofs.Common.{◌≡◌, ◌∙◌, ◌<◌, ◌∷◌, inr, Ok, Err, IfOk, IfErr, length, arith, sym, subst}
 use Rattle.std.proofs.lemmas.Grind.{common_steps}
 use Rattle.std.proofs.lemmas.Result.{IfErr-weaker}
 use Rattle.surw_base.specs.declared.limits.TheConstants.{STEPS}
-use Rattle.walk_rules.specs.declared.asked.Asked.{Asked}
-use Rattle.replay_text.specs.declared.replay_fault.ReplayFault.{ReplayFault}
 use Rattle.replay_text.specs.Lines.{unfinished, whole_lines}
 use Rattle.replay_text.specs.Reading.{asked_of, if_ended}
 use Rattle.replay_text.proofs.ReadLines.{AreRead, entries-none, more-read, no-end, stopped, too-many}

@@ -1,4 +1,4 @@
-use Rattle.std.proofs.Common.{◌≡◌, ◌∙◌, ◌∷◌, ◌++◌, ◌⊎◌, inl, inr, Some, None, List, ℕ, Ok, Err, ap, sym}
+use Rattle.std.proofs.Common.{◌∙◌, inl, inr, Some, None, Ok, ap, sym}
 use Rattle.std.proofs.lemmas.Bool.Decides.{Decides-eqb}
 use Rattle.std.proofs.lemmas.Slice.Eq.{strip_prefix_is}
 use Rattle.replay_text.specs.Lines.{unfinished, whole_lines}

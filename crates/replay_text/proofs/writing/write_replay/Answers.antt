@@ -1,4 +1,4 @@
-use Rattle.std.proofs.Common.{◌≡◌, ◌∙◌, ◌++◌}
+use Rattle.std.proofs.Common.{◌∙◌, ◌++◌}
 use Rattle.surw_base.specs.Lines.{line}
 use Rattle.replay_text.specs.SavedText.{header, name_text}
 use Rattle.replay_text.proofs.Written.{each-more, lines-more}
