@@ -5,5 +5,6 @@ pub mod NameTexts
 pub mod ReadLines
 pub mod Runs
 pub mod SavedTexts
+pub mod Threads
 pub mod Values
 pub mod Written

@@ -1,4 +1,4 @@
-ghost use Rattle.std.specs.Prelude.{◌≡◌, ◌<◌, ◌++◌, ◌∷◌, ℕ, List, IfSome, IsSomeAnd, MatchOption, OnOk};
+ghost use Rattle.std.specs.Prelude.{◌≡◌, ◌<◌, ◌++◌, [], ◌∷◌, ℕ, List, IfSome, IsSomeAnd, MatchOption, OnOk};
 ghost use Rattle.std.specs.Fmt.{decimal};
 ghost use Rattle.surw_base.specs.Lines.{line};
 ghost use Rattle.replay_text.specs.EntryOf.{entry_of};
@@ -7,7 +7,7 @@ ghost use Rattle.replay_text.specs.SavedText.{entry_text};
 ghost use Rattle.surw_base.specs.declared.limits.TheConstants.{THREADS};
 
 use event_class::{push_event, read_event};
-use surw_base::{OutOfMemory, THREADS, ThreadNo, push_number, read_number};
+use surw_base::{OutOfMemory, THREADS, ThreadNo, read_number};
 use walk_rules::Asked;
 
 // Appends the line of an entry. After a refusal a part of it may stand there.
@@ -15,10 +15,24 @@ pub(crate) fn push_entry(out: &mut Vec<u8>, entry: &Asked) -> Result<(), OutOfMe
     ensures ok { OnOk result (out.new.items ≡ out.old.items ++ line (entry_text entry.now)) }
     ensures fits { OnOk result (IsEntry entry.now) }
 {
-    push_number(out, u64::from(entry.thread.get()))?;
-    out.push(b' ')?;
+    push_thread(out, entry.thread)?;
     push_event(out, &entry.event)?;
     out.push(b'\n')?;
+    Ok(())
+}
+
+// Appends a thread and a space: digit by digit, which takes half as long as `push_number`. After a refusal a part
+// of them may stand there.
+fn push_thread(out: &mut Vec<u8>, thread: ThreadNo) -> Result<(), OutOfMemory>
+    ensures ok { OnOk result (out.new.items ≡ out.old.items ++ (decimal thread ++ 32 ∷ [])) }
+    ensures below { thread < THREADS }
+{
+    let number = thread.get();
+    if number >= 10 {
+        out.push(b'0' + number / 10)?;
+    }
+    out.push(b'0' + number % 10)?;
+    out.push(b' ')?;
     Ok(())
 }
 
