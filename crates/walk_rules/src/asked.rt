@@ -50,6 +50,13 @@ impl AskedList {
         self.items.len() as u32
     }
 
+    /// Its entries.
+    pub fn as_slice(&self) -> &[Asked]
+        ensures { result.now ≡ self.now }
+    {
+        self.items.as_slice()
+    }
+
     /// The entry at a place.
     pub fn at(&self, k: u32) -> Asked
         requires { k < length self.now }

@@ -1,0 +1,10 @@
+pub mod EntryTexts
+pub mod Feeds
+pub mod Lines
+pub mod NameTexts
+pub mod ReadLines
+pub mod Runs
+pub mod SavedTexts
+pub mod Threads
+pub mod Values
+pub mod Written
