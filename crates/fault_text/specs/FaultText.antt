@@ -2,11 +2,14 @@
 use Rattle.std.specs.Prelude.{ℕ, List, [], ◌∷◌, ◌++◌, codes}
 use Rattle.std.specs.List.{flat_map}
 use Rattle.std.specs.Fmt.{decimal, signed_decimal}
+use Rattle.hex.specs.Hex.{encode_lower}
+use Rattle.replay_text.specs.declared.replay_fault.ReplayFault.{ReplayFault}
+use Rattle.replay_text.specs.declared.replay_fault.ReplayFault.TheVariants as replay
 use Rattle.surw_base.specs.Lines.{line}
 use Rattle.scenario_toml.specs.declared.fault.ScenarioFault.{ScenarioFault}
 use Rattle.scenario_toml.specs.declared.fault.ScenarioFault.TheVariants.{NotToml, Missing, WrongKind, Unknown, Range, Name, OutOfMemory}
 use Rattle.fault_text.specs.declared.fault.Fault.{Fault}
-use Rattle.fault_text.specs.declared.fault.Fault.TheVariants.{Words, Lines, Read, Length, Large, Miscount, Offsets, Offset, TooLong, Scenario, ProfileStepLimit, ProfileDeadlock}
+use Rattle.fault_text.specs.declared.fault.Fault.TheVariants.{Words, Lines, Read, Length, Large, Miscount, Offsets, Offset, TooLong, Scenario, ProfileStepLimit, ProfileDeadlock, Replay, OtherScenario}
 
 -- the line of a word and then texts, each behind a space (32)
 abbrev pub fault_line : List ℕ → List (List ℕ) → List ℕ
@@ -22,6 +25,14 @@ scenario_fault_text (Range key kept least most) =
     fault_line (codes "fault scenario range") (key ∷ signed_decimal kept ∷ signed_decimal least ∷ signed_decimal most ∷ [])
 scenario_fault_text (Name key text) = fault_line (codes "fault scenario name") (key ∷ text ∷ [])
 scenario_fault_text OutOfMemory = []
+
+-- the line of a saved run's fault; want of memory has no line here either
+abbrev pub replay_fault_text : ReplayFault → List ℕ
+replay_fault_text replay.Header = fault_line (codes "fault replay header") []
+replay_fault_text (replay.Line number) = fault_line (codes "fault replay line") (decimal number ∷ [])
+replay_fault_text (replay.TooMany number) = fault_line (codes "fault replay too_many") (decimal number ∷ [])
+replay_fault_text replay.NoEnd = fault_line (codes "fault replay no_end") []
+replay_fault_text replay.OutOfMemory = []
 
 -- the fault's line; that of words is followed by the line of use
 abbrev pub fault_text : Fault → List ℕ
@@ -40,3 +51,6 @@ fault_text (TooLong limit) = fault_line (codes "fault too_long") (decimal limit 
 fault_text (Scenario fault) = scenario_fault_text fault
 fault_text ProfileStepLimit = fault_line (codes "fault profile step_limit") []
 fault_text (ProfileDeadlock step) = fault_line (codes "fault profile deadlock") (decimal step ∷ [])
+fault_text (Replay fault) = replay_fault_text fault
+fault_text (OtherScenario kept needed) =
+    fault_line (codes "fault replay other_scenario") (encode_lower kept ∷ encode_lower needed ∷ [])

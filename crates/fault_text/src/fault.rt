@@ -5,7 +5,9 @@ ghost use Rattle.fault_text.specs.FaultText.{fault_text};
 
 use crate::item::Item;
 use crate::line::put_line;
+use crate::replay_line::put_replay_line;
 use crate::scenario_line::put_scenario_line;
+use replay_text::{ReplayFault, name_digits};
 use scenario_toml::ScenarioFault;
 use surw_base::ThreadNo;
 use surw_io::{Failed, Sink};
@@ -62,6 +64,13 @@ pub enum Fault {
     /// No thread of the profile's run can go on after `step` steps.
     ProfileDeadlock {
         step: u32,
+    },
+    /// The file is no saved run, for this cause.
+    Replay(ReplayFault),
+    /// The saved run is of the scenario named `kept`, where that of the file is `needed`.
+    OtherScenario {
+        kept: [u8; 32],
+        needed: [u8; 32],
     },
 }
 
@@ -146,6 +155,15 @@ impl Fault {
                 out,
                 b"fault profile deadlock",
                 &[Item::Number(u64::from(*step))],
+            ),
+            Fault::Replay(fault) => put_replay_line(fault, out),
+            Fault::OtherScenario { kept, needed } => put_line(
+                out,
+                b"fault replay other_scenario",
+                &[
+                    Item::Text(&name_digits(*kept)),
+                    Item::Text(&name_digits(*needed)),
+                ],
             ),
         }
     }

@@ -4,6 +4,7 @@
 mod fault;
 mod item;
 mod line;
+mod replay_line;
 mod scenario_line;
 
 pub use fault::Fault;

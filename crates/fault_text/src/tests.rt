@@ -1,9 +1,14 @@
 use crate::Fault;
+use replay_text::ReplayFault;
 use scenario_toml::{ScenarioFault, read_scenario};
 use std::alloc::{AllocError, Global};
 use std::test::Fail;
 use surw_base::ThreadNo;
 use surw_io::{Failed, MemSink};
+
+const OTHER_SCENARIO_TEXT: &str = "fault replay other_scenario \
+0a0a0a0a0a0a0a0a0a0a0a0a0a0a0a0a0a0a0a0a0a0a0a0a0a0a0a0a0a0a0a0a \
+ffffffffffffffffffffffffffffffffffffffffffffffffffffffffffffffff\n";
 
 // The fault of a scenario file that has one.
 fn fault_of(alloc: Global, file: &str) -> Result<Fault, AllocError> {
@@ -44,9 +49,26 @@ fn each_fault_has_its_line(rt: HostRuntime) -> Result<(), Fail> {
             Fault::ProfileDeadlock { step: 2 },
             "fault profile deadlock 2\n",
         ),
+        (Fault::Replay(ReplayFault::Header), "fault replay header\n"),
+        (
+            Fault::Replay(ReplayFault::Line { number: 2 }),
+            "fault replay line 2\n",
+        ),
+        (
+            Fault::Replay(ReplayFault::TooMany { number: 65_539 }),
+            "fault replay too_many 65539\n",
+        ),
+        (Fault::Replay(ReplayFault::NoEnd), "fault replay no_end\n"),
+        (
+            Fault::OtherScenario {
+                kept: [10; 32],
+                needed: [255; 32],
+            },
+            OTHER_SCENARIO_TEXT,
+        ),
     ];
     for (fault, line) in rows.iter() {
-        let mut out = MemSink::new(rt.alloc(), 100, 7, Vec::new(rt.alloc()))?;
+        let mut out = MemSink::new(rt.alloc(), 200, 7, Vec::new(rt.alloc()))?;
         assert_eq!(rt; fault.put(&mut out), Ok(()), "{line}");
         assert_eq!(rt; out.taken(), line.as_bytes(), "{line}");
     }

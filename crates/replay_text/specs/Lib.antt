@@ -6,3 +6,4 @@ pub mod NameOf
 pub mod Reading
 pub mod SavedRun
 pub mod SavedText
+pub mod Summary

@@ -14,7 +14,7 @@ pub(crate) fn push_name(out: &mut Vec<u8>, name: [u8; 32]) -> Result<(), OutOfMe
     ensures fits { IsName name }
 {
     out.extend_from_slice(b"scenario ")?;
-    out.extend_from_slice(&digits_of(name))?;
+    out.extend_from_slice(&name_digits(name))?;
     out.push(b'\n')?;
     Ok(())
 }
@@ -29,7 +29,7 @@ pub(crate) fn read_name(line: &[u8]) -> Option<[u8; 32]>
     };
     match decoded(digits) {
         Some(name) => {
-            if digits != digits_of(name).as_slice() {
+            if digits != name_digits(name).as_slice() {
                 return None;
             }
             Some(name)
@@ -38,8 +38,8 @@ pub(crate) fn read_name(line: &[u8]) -> Option<[u8; 32]>
     }
 }
 
-// The hexadecimal digits of a name, in lower case.
-fn digits_of(name: [u8; 32]) -> [u8; 64]
+/// The hexadecimal digits of a name, in lower case.
+pub fn name_digits(name: [u8; 32]) -> [u8; 64]
     ensures { result ≡ encode_lower name }
 {
     let mut digits = [0; 64];

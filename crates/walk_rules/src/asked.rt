@@ -65,13 +65,6 @@ impl AskedList {
         self.items[k as usize]
     }
 
-    /// The entries.
-    pub fn as_slice(&self) -> &[Asked]
-        ensures { result.now ≡ self.now }
-    {
-        self.items.as_slice()
-    }
-
     /// An equal list. An error comes only where memory is refused.
     pub fn copy(&self, alloc: Global) -> Result<AskedList, OutOfMemory>
         ensures { IfOk result (λ copy. copy ≡ self.now) }

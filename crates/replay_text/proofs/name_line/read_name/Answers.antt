@@ -31,7 +31,7 @@ returns-then-ne c = none-named c.args.line.now (λ name is.
     let digits : c.in-Some.digits.now ≡ encode_lower name = ap (drop 9) (sym line ∙ is.spelled) in
     let some = c.in-Some-decoded.ensures.only name is.fits.long (rw digits (decode_of-encode_lower name is.fits.bytes)) in
     let same : c.as_slice.result.now ≡ c.in-Some.digits.now =
-    c.as_slice.ensures ∙ c.digits_of.ensures ∙ ap encode_lower (same_Some c.in-Some-decoded.name name some) ∙ sym digits in
+    c.as_slice.ensures ∙ c.name_digits.ensures ∙ ap encode_lower (same_Some c.in-Some-decoded.name name some) ∙ sym digits in
     let equal : bytes_eq c.in-Some.digits.now c.as_slice.result.now ≡ true = same-bytes c.in-Some.digits.now c.as_slice.result.now same in
     false≢true (sym (c.ne.ensures ∙ ap not equal) ∙ c.if-ne.true))
 
@@ -41,7 +41,7 @@ returns-else-ne c =
     let line = strip_prefix_is Decides-eqb c.args.line.now (codes "scenario ") (Some c.in-Some.digits) c.in-Some.ensures.cases in
     let digits : c.in-Some.digits.now ≡ encode_lower name =
     sym (bytes-same c.in-Some.digits.now c.as_slice.result.now (not-false (bytes_eq c.in-Some.digits.now c.as_slice.result.now) (sym c.ne.ensures ∙ c.if-ne.false)))
-    ∙ c.as_slice.ensures ∙ c.digits_of.ensures in
+    ∙ c.as_slice.ensures ∙ c.name_digits.ensures in
     sym (name-again c.args.line.now name (record {
       spelled = line ∙ ap (λ l. codes "scenario " ++ l) digits;
       fits = record { long = c.in-Some-decoded.ensures.long; bytes = (decode_of-ok c.in-Some.digits.now name c.in-Some-decoded.ensures.found).3 };
