@@ -28,3 +28,7 @@ returns-in-TooLong-clause-all g c = rw (c.in-TooLong.is, sym c.from-in-TooLong.e
 pub returns-in-ProfileDeadlock-clause-all : goal.returns-in-ProfileDeadlock-clause-all
 returns-in-ProfileDeadlock-clause-all g c =
     rw (c.in-ProfileDeadlock.is, sym c.from-in-ProfileDeadlock.ensures) c.put_line-in-ProfileDeadlock.ensures.all
+
+pub returns-in-OtherScenario-clause-all : goal.returns-in-OtherScenario-clause-all
+returns-in-OtherScenario-clause-all g c =
+    rw (c.in-OtherScenario.is, sym c.name_digits.ensures, sym c.name_digits-in-OtherScenario.ensures) c.put_line-in-OtherScenario.ensures.all
