@@ -4,7 +4,7 @@ use Rattle.std.specs.declared.alloc.Global.{Global}
 use Rattle.std.proofs.lemmas.List.{take-append-drop, drop-drop, take-append-le, take-take, length-take-le, get_or-map, drop_all}
 use Rattle.surw_io.specs.Calls.{is_listed}
 use Rattle.surw_io.specs.Content.{Missing, content_of}
-use Rattle.surw_io.specs.MemShelf.{ShelfState, named_bytes, file_of, entry, open_gives, read_gives, left_at, bytes_at, IsPlace}
+use Rattle.surw_io.specs.MemShelf.{ShelfState, named_bytes, file_of, entry, open_gives, read_gives, write_gives, left_at, bytes_at, IsPlace}
 
 -- what an open gives is the file of the name
 pub given_file : (fails : Bool) (file : Option (List ℕ)) (left : List ℕ) → (if fails then None else file) ≡ Some left → file ≡ Some left
@@ -29,6 +29,10 @@ given_count false m n e = cc
 -- no more is read than was asked
 pub read_within : (shelf : ShelfState) (asked n : ℕ) → read_gives shelf asked ≡ Some n → n ≤ asked
 read_within shelf asked n e = let same = given_count _ _ _ e in omega arith
+
+-- no more is written than was offered
+pub write_within : (shelf : ShelfState) (offered n : ℕ) → write_gives shelf offered ≡ Some n → n ≤ offered
+write_within shelf offered n e = let same = given_count _ _ _ e in omega arith
 
 -- the whole file is left
 pub drop-none : (bytes : List ℕ) (n : ℕ) → n ≡ length bytes → drop (length bytes - n) bytes ≡ bytes

@@ -1,8 +1,9 @@
-use Rattle.std.proofs.Common.{ℕ, List, Option, inl, inr, Some, length, ap}
+use Rattle.std.proofs.Common.{ℕ, List, Option, inl, inr, Some, is_some, length, take, ap, ◌∙◌}
 use Rattle.std.proofs.lemmas.Result.{MatchResult-weaker, IfOk-weaker, on_err_weaker}
 use Rattle.surw_io.specs.MemShelf.{ShelfState, entry, file_of}
-use Rattle.surw_io.proofs.ShelfRules.{open_there, open_content, read_within}
-use Rattle.surw_io.proofs.Results.{on_ok, on_err}
+use Rattle.surw_io.proofs.MadeRules.{more_ready}
+use Rattle.surw_io.proofs.ShelfRules.{open_there, open_content, read_within, write_within}
+use Rattle.surw_io.proofs.Results.{on_ok, on_err, either}
 use Rattle.surw_io.proofs.mem_shelf.MemShelfShelf.TheImpl.Goals as goal
 
 pub open-tells : goal.open-tells
@@ -16,6 +17,9 @@ open-tells c =
       stays = on_err c.result same;
       stays_after = on_err c.result same;
       opens = ap (λ (shelf : ShelfState). shelf.opens) c.ensures.after;
+      made = ap (λ (shelf : ShelfState). Some shelf.made) c.ensures.after;
+      ready = ap (λ (shelf : ShelfState). is_some shelf.made.last) c.ensures.after;
+      out_faults = ap (λ (shelf : ShelfState). shelf.out_faults) c.ensures.after;
       cause = record {
         never_falls = c.ensures.cause.never_falls;
         calm = c.ensures.cause.calm;
@@ -35,5 +39,51 @@ read-tells c =
       coming = same;
       coming_after = same;
       opens = ap (λ (shelf : ShelfState). shelf.opens) c.ensures.after;
+      made = ap (λ (shelf : ShelfState). Some shelf.made) c.ensures.after;
+      ready = ap (λ (shelf : ShelfState). is_some shelf.made.last) c.ensures.after;
+      out_faults = ap (λ (shelf : ShelfState). shelf.out_faults) c.ensures.after;
+      cause = c.ensures.cause;
+    }
+
+pub create-tells : goal.create-tells
+create-tells c =
+    let told = λ (shelf : ShelfState). Some shelf.made in
+    let ready = λ (shelf : ShelfState). is_some shelf.made.last in
+    let file = λ (other : List ℕ) (shelf : ShelfState). Some (entry (file_of shelf.files other)) in
+    let left = λ (shelf : ShelfState). Some shelf.left in
+    let opens = λ (shelf : ShelfState). shelf.opens in
+    let faults = λ (shelf : ShelfState). shelf.in_faults in
+    record {
+      made = MatchResult-weaker c.result c.ensures.after (λ _ e. ap told e) (λ _ _. tt);
+      ready = MatchResult-weaker c.result c.ensures.after (λ _ e. ap ready e) (λ _ _. tt);
+      kept = MatchResult-weaker c.result c.ensures.after (λ _ _. tt) (λ _ e. ap told e);
+      as_ready = MatchResult-weaker c.result c.ensures.after (λ _ _. tt) (λ _ e. ap ready e);
+      coming = λ other. either c.result (MatchResult-weaker c.result c.ensures.after (λ _ e. ap (file other) e) (λ _ e. ap (file other) e));
+      coming_after = λ other. either c.result (MatchResult-weaker c.result c.ensures.after (λ _ e. ap (file other) e) (λ _ e. ap (file other) e));
+      left = either c.result (MatchResult-weaker c.result c.ensures.after (λ _ e. ap left e) (λ _ e. ap left e));
+      opens = either c.result (MatchResult-weaker c.result c.ensures.after (λ _ e. ap opens e) (λ _ e. ap opens e));
+      in_faults = either c.result (MatchResult-weaker c.result c.ensures.after (λ _ e. ap faults e) (λ _ e. ap faults e));
+      cause = c.ensures.cause;
+    }
+
+pub write-tells : goal.write-tells
+write-tells c =
+    let told = λ (shelf : ShelfState). Some shelf.made in
+    let ready = λ (shelf : ShelfState). is_some shelf.made.last in
+    let file = λ (other : List ℕ) (shelf : ShelfState). Some (entry (file_of shelf.files other)) in
+    let left = λ (shelf : ShelfState). Some shelf.left in
+    let opens = λ (shelf : ShelfState). shelf.opens in
+    let faults = λ (shelf : ShelfState). shelf.in_faults in
+    record {
+      within = MatchResult-weaker c.result c.ensures.gives (λ n e. write_within c.args.self.now (length c.args.piece.now) n e) (λ _ _. tt);
+      some = c.ensures.some;
+      made = MatchResult-weaker c.result c.ensures.after (λ _ e. ap told e) (λ _ _. tt);
+      kept = MatchResult-weaker c.result c.ensures.after (λ _ _. tt) (λ _ e. ap told e);
+      ready = either c.result (MatchResult-weaker c.result c.ensures.after (λ n e. ap ready e ∙ more_ready c.args.self.now.made (take n c.args.piece.now)) (λ _ e. ap ready e));
+      coming = λ other. either c.result (MatchResult-weaker c.result c.ensures.after (λ _ e. ap (file other) e) (λ _ e. ap (file other) e));
+      coming_after = λ other. either c.result (MatchResult-weaker c.result c.ensures.after (λ _ e. ap (file other) e) (λ _ e. ap (file other) e));
+      left = either c.result (MatchResult-weaker c.result c.ensures.after (λ _ e. ap left e) (λ _ e. ap left e));
+      opens = either c.result (MatchResult-weaker c.result c.ensures.after (λ _ e. ap opens e) (λ _ e. ap opens e));
+      in_faults = either c.result (MatchResult-weaker c.result c.ensures.after (λ _ e. ap faults e) (λ _ e. ap faults e));
       cause = c.ensures.cause;
     }
