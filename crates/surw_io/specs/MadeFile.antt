@@ -1,5 +1,5 @@
 -- The file that the shelf in memory created last, in the room that it has.
-use Rattle.std.specs.Prelude.{◌==◌, ℕ, ◌-◌, if◌then◌else◌, List, [], length, Option, Some, None, option_map, unwrap_or}
+use Rattle.std.specs.Prelude.{◌==◌, ℕ, ◌-◌, if◌then◌else◌, List, [], length, Some, None, option_map, unwrap_or}
 use Rattle.surw_io.specs.Made.{Made}
 
 -- what was made, and the most bytes of the file created last

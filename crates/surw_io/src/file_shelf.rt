@@ -197,17 +197,13 @@ mod tests {
     #[test]
     fn a_real_file_is_created_anew(rt: HostRuntime) -> Result<(), Fail> {
         let mut shelf = FileShelf::new(&rt);
-        let longer = put_file(&mut shelf, NEW_NAME, b"order 2 1\n0 1 0\n");
-        let shorter = put_file(&mut shelf, NEW_NAME, b"order 1\n");
+        put_file(&mut shelf, NEW_NAME, b"order 2 1\n0 1 0\n")?;
+        put_file(&mut shelf, NEW_NAME, b"order 1\n")?;
         // No file can be made where its folder isn't there, and the one made before still takes bytes.
         let nowhere = shelf.create("surw_io_no_such_folder/file");
-        let more = match &nowhere {
-            Ok(()) => Err(Failed),
-            Err(Failed) => shelf.write(b"0\n"),
-        };
+        let more = shelf.write(b"0\n");
         let fetched = fetch(rt.alloc(), &mut shelf, NEW_NAME, 100);
         fs::remove_file(&rt, NEW_NAME)?;
-        assert_eq!(rt; (longer, shorter), (Ok(()), Ok(())));
         assert_eq!(rt; (nowhere, more), (Err(Failed), Ok(2)));
         assert_eq!(rt; fetched?.as_slice(), b"order 1\n0\n".as_slice());
         assert_eq!(rt; (shelf.in_faults, shelf.out_faults), (0, 1));
