@@ -1,3 +1,4 @@
+pub mod MadeRules
 pub mod Results
 pub mod ShelfRules
 pub mod SinkRules

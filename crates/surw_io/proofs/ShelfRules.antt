@@ -1,10 +1,10 @@
--- Looking a file up on the shelf in memory, and reading what is left of it.
-use Rattle.std.proofs.Common.{◌≡◌, ℕ, ◌+◌, ◌-◌, ◌<◌, ◌≤◌, Bool, true, false, if◌then◌else◌, List, [], ◌++◌, length, get_or, take, drop, Option, Some, None, String, Vec, string_bytes, ap, sym, ◌∙◌, arith}
+-- Looking a file up on the shelf in memory, reading what is left of it, and what creates and writes leave alone.
+use Rattle.std.proofs.Common.{◌≡◌, ℕ, ◌+◌, ◌-◌, ◌<◌, ◌≤◌, Bool, true, false, if◌then◌else◌, List, [], ◌++◌, length, get_or, take, drop, Option, Some, None, String, Vec, string_bytes, refl, ap, sym, subst, ◌∙◌, arith}
 use Rattle.std.specs.declared.alloc.Global.{Global}
 use Rattle.std.proofs.lemmas.List.{take-append-drop, drop-drop, take-append-le, take-take, length-take-le, get_or-map, drop_all}
 use Rattle.surw_io.specs.Calls.{is_listed}
 use Rattle.surw_io.specs.Content.{Missing, content_of}
-use Rattle.surw_io.specs.MemShelf.{ShelfState, named_bytes, file_of, entry, open_gives, read_gives, left_at, bytes_at, IsPlace}
+use Rattle.surw_io.specs.MemShelf.{ShelfState, named_bytes, file_of, entry, open_gives, read_gives, write_gives, started, wrote, refused, left_at, bytes_at, IsPlace}
 
 -- what an open gives is the file of the name
 pub given_file : (fails : Bool) (file : Option (List ℕ)) (left : List ℕ) → (if fails then None else file) ≡ Some left → file ≡ Some left
@@ -29,6 +29,29 @@ given_count false m n e = cc
 -- no more is read than was asked
 pub read_within : (shelf : ShelfState) (asked n : ℕ) → read_gives shelf asked ≡ Some n → n ≤ asked
 read_within shelf asked n e = let same = given_count _ _ _ e in omega arith
+
+-- no more is written than was offered
+pub write_within : (shelf : ShelfState) (offered n : ℕ) → write_gives shelf offered ≡ Some n → n ≤ offered
+write_within shelf offered n e = let same = given_count _ _ _ e in omega arith
+
+-- the half that is read is as it was
+pub record ReadsAlike (before now : ShelfState) : Type 0 where
+  pub files : now.files ≡ before.files
+  pub left : now.left ≡ before.left
+  pub opens : now.opens ≡ before.opens
+  pub in_faults : now.in_faults ≡ before.in_faults
+
+-- so it is after a create
+pub started_alike : (before now : ShelfState) (name : List ℕ) → now ≡ started before name → ReadsAlike before now
+started_alike before now name e = subst (ReadsAlike before) (sym e) (record { files = refl; left = refl; opens = refl; in_faults = refl })
+
+-- and after a write
+pub wrote_alike : (before now : ShelfState) (bytes : List ℕ) → now ≡ wrote before bytes → ReadsAlike before now
+wrote_alike before now bytes e = subst (ReadsAlike before) (sym e) (record { files = refl; left = refl; opens = refl; in_faults = refl })
+
+-- and after either failed
+pub refused_alike : (before now : ShelfState) → now ≡ refused before → ReadsAlike before now
+refused_alike before now e = subst (ReadsAlike before) (sym e) (record { files = refl; left = refl; opens = refl; in_faults = refl })
 
 -- the whole file is left
 pub drop-none : (bytes : List ℕ) (n : ℕ) → n ≡ length bytes → drop (length bytes - n) bytes ≡ bytes

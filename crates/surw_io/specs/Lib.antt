@@ -3,6 +3,8 @@ pub mod Cause
 pub mod Content
 pub mod Fetch
 pub mod FileShelf
+pub mod Made
+pub mod MadeFile
 pub mod MemShelf
 pub mod MemSink
 pub mod SafeShelf

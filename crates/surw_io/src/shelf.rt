@@ -1,10 +1,12 @@
-ghost use Rattle.std.specs.Prelude.{◌≡◌, ◌≢◌, ◌<◌, ◌≤◌, ℕ, List, Some, Option, length, take, drop, IfOk, OnOk, OnErr};
+ghost use Rattle.std.specs.Prelude.{◌≡◌, ◌≢◌, ◌<◌, ◌≤◌, ℕ, Bool, List, Some, Option, length, take, drop, IfOk, OnOk, OnErr, IsTrue};
 ghost use Rattle.surw_io.specs.Content.{Entry, Missing, content_of, with_prefix, emptied, IsAtEnd};
+ghost use Rattle.surw_io.specs.Made.{Made, created, written};
 ghost use Rattle.surw_io.specs.Cause.{HasCause, one_more};
 
 use crate::Failed;
 
-/// Files that are opened by name, one at a time, and read from the front.
+/// Files that are opened by name, one at a time, and read from the front; and files that are created by name,
+/// one at a time, and written to their end. Neither half changes what the other tells.
 pub trait Shelf {
     /// What the next open of a name gives, where the shelf tells it.
     ghost coming: { Self → List ℕ → Option Entry };
@@ -21,6 +23,16 @@ pub trait Shelf {
     /// How often an open or a read has failed. It stays at its greatest value once there.
     ghost in_faults: { Self → ℕ };
 
+    /// How many creates were answered `Ok`, and the file created last with the bytes written to it, where the
+    /// shelf tells it.
+    ghost made: { Self → Option Made };
+
+    /// Whether a create was answered `Ok`. Every shelf tells it.
+    ghost ready: { Self → Bool };
+
+    /// How often a create or a write has failed. It stays at its greatest value once there.
+    ghost out_faults: { Self → ℕ };
+
     /// Opens the file of a name. `Failed` comes only where `in_faults` rose or there is no such file, and
     /// always where there is none; what was opened before is then closed.
     fn open(&mut self, name: &str) -> Result<(), Failed>
@@ -31,6 +43,9 @@ pub trait Shelf {
         ensures stays { OnErr result ((other : List ℕ) → coming self.new other ≡ coming self.old other) }
         ensures stays_after { OnErr result ((other : List ℕ) → coming_after self.new other ≡ coming_after self.old other) }
         ensures opens { opens self.new ≡ one_more (opens self.old) }
+        ensures made { made self.new ≡ made self.old }
+        ensures ready { ready self.new ≡ ready self.old }
+        ensures out_faults { out_faults self.new ≡ out_faults self.old }
         ensures cause { HasCause (in_faults self.old) (in_faults self.new) result (coming self.old name.now ≡ Some Missing) };
 
     /// Moves bytes of the opened file to the front of `into` and answers how many, 0 only at the end of the
@@ -44,5 +59,39 @@ pub trait Shelf {
         ensures coming { (other : List ℕ) → coming self.new other ≡ coming self.old other }
         ensures coming_after { (other : List ℕ) → coming_after self.new other ≡ coming_after self.old other }
         ensures opens { opens self.new ≡ opens self.old }
+        ensures made { made self.new ≡ made self.old }
+        ensures ready { ready self.new ≡ ready self.old }
+        ensures out_faults { out_faults self.new ≡ out_faults self.old }
         ensures cause { HasCause (in_faults self.old) (in_faults self.new) result ⊥ };
+
+    /// Creates an empty file of a name, in place of one that has it, and writes go to it from then on. After
+    /// `Failed`, which comes only where `out_faults` rose, none was created.
+    fn create(&mut self, name: &str) -> Result<(), Failed>
+        ensures made { OnOk result (made self.new ≡ created (made self.old) name.now) }
+        ensures ready { OnOk result (IsTrue (ready self.new)) }
+        ensures kept { OnErr result (made self.new ≡ made self.old) }
+        ensures as_ready { OnErr result (ready self.new ≡ ready self.old) }
+        ensures coming { (other : List ℕ) → coming self.new other ≡ coming self.old other }
+        ensures coming_after { (other : List ℕ) → coming_after self.new other ≡ coming_after self.old other }
+        ensures left { left self.new ≡ left self.old }
+        ensures opens { opens self.new ≡ opens self.old }
+        ensures in_faults { in_faults self.new ≡ in_faults self.old }
+        ensures cause { HasCause (out_faults self.old) (out_faults self.new) result ⊥ };
+
+    /// Writes some bytes from the front of a piece behind those of the file created last, at least one unless
+    /// the piece is empty, and answers how many. After `Failed`, which comes only where `out_faults` rose, none
+    /// was written.
+    fn write(&mut self, piece: &[u8]) -> Result<usize, Failed>
+        requires { IsTrue (ready self.old) }
+        ensures within { IfOk result (λ n. n ≤ length piece.now) }
+        ensures some { IfOk result (λ n. 0 < length piece.now → 0 < n) }
+        ensures made { IfOk result (λ n. made self.new ≡ written (made self.old) (take n piece.now)) }
+        ensures kept { OnErr result (made self.new ≡ made self.old) }
+        ensures ready { ready self.new ≡ ready self.old }
+        ensures coming { (other : List ℕ) → coming self.new other ≡ coming self.old other }
+        ensures coming_after { (other : List ℕ) → coming_after self.new other ≡ coming_after self.old other }
+        ensures left { left self.new ≡ left self.old }
+        ensures opens { opens self.new ≡ opens self.old }
+        ensures in_faults { in_faults self.new ≡ in_faults self.old }
+        ensures cause { HasCause (out_faults self.old) (out_faults self.new) result ⊥ };
 }

@@ -1,6 +1,7 @@
-ghost use Rattle.std.specs.Prelude.{◌≡◌, ◌+◌, ◌^◌, ◌<◌, ◌≤◌, ℕ, List, length, IfOk, IfErr, OnOk};
+ghost use Rattle.std.specs.Prelude.{◌≡◌, ◌⊎◌, ◌+◌, ◌^◌, ◌<◌, ◌≤◌, ℕ, List, length, IfOk, IfErr, OnOk, OnErr, IsTrue};
 ghost use Rattle.surw_io.specs.Content.{IsFileOf};
-ghost use Rattle.surw_io.specs.Cause.{one_more};
+ghost use Rattle.surw_io.specs.Made.{with_file, HoldsFilePrefix};
+ghost use Rattle.surw_io.specs.Cause.{HasCause, one_more};
 ghost use Rattle.surw_io.specs.Fetch.{IsRefused, LeavesRest};
 
 use crate::{Failed, Shelf};
@@ -73,6 +74,9 @@ pub fn fetch<F: Shelf>(
     ensures never_falls { F.in_faults shelf.old ≤ F.in_faults shelf.new }
     ensures opened_once { F.opens shelf.new ≡ one_more (F.opens shelf.old) }
     ensures rest { LeavesRest (F.coming shelf.old name.now) limit (F.left shelf.new) result }
+    ensures made { F.made shelf.new ≡ F.made shelf.old }
+    ensures ready { F.ready shelf.new ≡ F.ready shelf.old }
+    ensures out_faults { F.out_faults shelf.new ≡ F.out_faults shelf.old }
 {
     shelf.open(name)?;
     let most = limit as usize;
@@ -89,6 +93,29 @@ pub fn fetch<F: Shelf>(
         }
         bytes.extend_from_slice(&buffer[..n])?;
     }
+}
+
+/// Creates a file of these bytes: one create, and then writes that are each offered all bytes that are left.
+/// After `Failed`, which comes only where `out_faults` rose, none was created, or one that has a prefix of them.
+pub fn put_file<F: Shelf>(shelf: &mut F, name: &str, bytes: &[u8]) -> Result<(), Failed>
+    ensures whole { OnOk result (F.made shelf.new ≡ with_file (F.made shelf.old) name.now bytes.now) }
+    ensures prefix { OnErr result ((F.made shelf.new ≡ F.made shelf.old) ⊎ HoldsFilePrefix (F.made shelf.old) name.now bytes.now (F.made shelf.new)) }
+    ensures ready { OnOk result (IsTrue (F.ready shelf.new)) }
+    ensures coming { (other : List ℕ) → F.coming shelf.new other ≡ F.coming shelf.old other }
+    ensures coming_after { (other : List ℕ) → F.coming_after shelf.new other ≡ F.coming_after shelf.old other }
+    ensures left { F.left shelf.new ≡ F.left shelf.old }
+    ensures opens { F.opens shelf.new ≡ F.opens shelf.old }
+    ensures in_faults { F.in_faults shelf.new ≡ F.in_faults shelf.old }
+    ensures cause { HasCause (F.out_faults shelf.old) (F.out_faults shelf.new) result ⊥ }
+{
+    shelf.create(name)?;
+    let mut rest = bytes;
+    while !rest.is_empty() {
+        let n = shelf.write(rest)?;
+        let (_, after) = rest.split_at(n);
+        rest = after;
+    }
+    Ok(())
 }
 
 #[cfg(test)]

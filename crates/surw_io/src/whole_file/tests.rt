@@ -71,3 +71,31 @@ fn a_read_fails_in_the_middle(rt: HostRuntime) -> Result<(), Fail> {
     );
     Ok(())
 }
+
+// A shelf with no file, whose created file has room for 100 bytes and whose writes take 4.
+fn empty_shelf(alloc: Global, fails: &[u32]) -> Result<MemShelf, Fail> {
+    let files = Vec::new(alloc);
+    let fails = Vec::from_slice(alloc, fails)?;
+    Ok(MemShelf::new(alloc, files, 100, 4, fails)?)
+}
+
+#[test]
+fn a_file_is_written_whole(rt: HostRuntime) -> Result<(), Fail> {
+    let mut shelf = empty_shelf(rt.alloc(), &[])?;
+    assert_eq!(rt; put_file(&mut shelf, "a", b"123456789"), Ok(()));
+    assert_eq!(rt;
+        shelf.made(),
+        Some((b"a".as_slice(), b"123456789".as_slice()))
+    );
+    assert_eq!(rt; put_file(&mut shelf, "b", b""), Ok(()));
+    assert_eq!(rt; shelf.made(), Some((b"b".as_slice(), b"".as_slice())));
+    Ok(())
+}
+
+#[test]
+fn a_write_fails_and_a_prefix_stands(rt: HostRuntime) -> Result<(), Fail> {
+    let mut shelf = empty_shelf(rt.alloc(), &[2])?;
+    assert_eq!(rt; put_file(&mut shelf, "a", b"123456789"), Err(Failed));
+    assert_eq!(rt; shelf.made(), Some((b"a".as_slice(), b"1234".as_slice())));
+    Ok(())
+}

@@ -11,6 +11,9 @@ invariant-loop-bytes g l = record {
   moved : (other : List ℕ) → g.F.Shelf.coming l.shelf other ≡ g.F.Shelf.coming_after l.fn.shelf other;
   calm : g.F.Shelf.in_faults l.shelf ≡ g.F.Shelf.in_faults l.fn.shelf;
   opens : g.F.Shelf.opens l.shelf ≡ one_more (g.F.Shelf.opens l.fn.shelf);
+  made : g.F.Shelf.made l.shelf ≡ g.F.Shelf.made l.fn.shelf;
+  ready : g.F.Shelf.ready l.shelf ≡ g.F.Shelf.ready l.fn.shelf;
+  out_faults : g.F.Shelf.out_faults l.shelf ≡ g.F.Shelf.out_faults l.fn.shelf;
   buffer : length l.buffer ≡ 8192;
 }
 

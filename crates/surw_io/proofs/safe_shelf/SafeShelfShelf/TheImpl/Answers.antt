@@ -21,6 +21,9 @@ open-tells g c =
       stays = on_err_none c.result _ c.ensures.ok;
       stays_after = on_err_none c.result _ c.ensures.ok;
       opens = ap (λ (texts : TextsState). texts.opens) c.ensures.after;
+      made = refl;
+      ready = ap (λ (texts : TextsState). texts.ready) c.ensures.after;
+      out_faults = refl;
       cause = record { never_falls = omega arith; calm = on_ok c.result refl; rose = on_err_none c.result _ c.ensures.ok };
     }
 
@@ -35,5 +38,39 @@ read-tells g c =
       coming = λ other. ap (λ (texts : TextsState). Some (File texts.first)) c.ensures.after;
       coming_after = λ other. ap (λ (texts : TextsState). Some (File texts.second)) c.ensures.after;
       opens = ap (λ (texts : TextsState). texts.opens) c.ensures.after;
+      made = refl;
+      ready = ap (λ (texts : TextsState). texts.ready) c.ensures.after;
+      out_faults = refl;
+      cause = record { never_falls = omega arith; calm = on_ok c.result refl; rose = on_err_none c.result _ c.ensures.ok };
+    }
+
+pub create-tells : goal.create-tells
+create-tells g c =
+    record {
+      made = on_ok c.result refl;
+      ready = on_ok c.result (ap (λ (texts : TextsState). texts.ready) c.ensures.after);
+      kept = on_err_none c.result _ c.ensures.ok;
+      as_ready = on_err_none c.result _ c.ensures.ok;
+      coming = λ other. ap (λ (texts : TextsState). Some (File texts.first)) c.ensures.after;
+      coming_after = λ other. ap (λ (texts : TextsState). Some (File texts.second)) c.ensures.after;
+      left = ap (λ (texts : TextsState). Some texts.left) c.ensures.after;
+      opens = ap (λ (texts : TextsState). texts.opens) c.ensures.after;
+      in_faults = refl;
+      cause = record { never_falls = omega arith; calm = on_ok c.result refl; rose = on_err_none c.result _ c.ensures.ok };
+    }
+
+pub write-tells : goal.write-tells
+write-tells g c =
+    record {
+      within = IfOk-weaker c.result _ _ (λ n e. omega (arith, e)) c.ensures.gives;
+      some = IfOk-weaker c.result _ _ (λ n e some. omega (arith, e, some)) c.ensures.gives;
+      made = IfOk-weaker c.result _ _ (λ n e. refl) c.ensures.gives;
+      kept = on_err_none c.result _ c.ensures.ok;
+      ready = ap (λ (texts : TextsState). texts.ready) c.ensures.after;
+      coming = λ other. ap (λ (texts : TextsState). Some (File texts.first)) c.ensures.after;
+      coming_after = λ other. ap (λ (texts : TextsState). Some (File texts.second)) c.ensures.after;
+      left = ap (λ (texts : TextsState). Some texts.left) c.ensures.after;
+      opens = ap (λ (texts : TextsState). texts.opens) c.ensures.after;
+      in_faults = refl;
       cause = record { never_falls = omega arith; calm = on_ok c.result refl; rose = on_err_none c.result _ c.ensures.ok };
     }
