@@ -29,7 +29,7 @@ use Rattle.replay_text.proofs.NameTexts.{given-name, name-again, none-named}
 use Rattle.replay_text.proofs.ReadLines.{asked-end, asked-many, entries-end, entries-none}
 use Rattle.replay_text.proofs.SavedTexts.{behind-header, no-header}
 
--- the lines of the entries at the front, what follows them, and that it begins with no entry
+-- the lines are those of these entries and what follows them
 pub record AreFront (lines : List (List ℕ)) (entries : List Asked) (behind : List (List ℕ)) : Type 0 where
   pub whole : lines ≡ map entry_text entries ++ behind
   pub each : All IsEntry entries

@@ -21,8 +21,7 @@ pub(crate) fn push_entry(out: &mut Vec<u8>, entry: &Asked) -> Result<(), OutOfMe
     Ok(())
 }
 
-// Appends a thread and a space: digit by digit, which takes half as long as `push_number`. After a refusal a part
-// of them may stand there.
+// Appends a thread, which has two digits at most, and a space. After a refusal a part of them may stand there.
 fn push_thread(out: &mut Vec<u8>, thread: ThreadNo) -> Result<(), OutOfMemory>
     ensures ok { OnOk result (out.new.items ≡ out.old.items ++ (decimal thread ++ 32 ∷ [])) }
     ensures below { thread < THREADS }
@@ -31,8 +30,7 @@ fn push_thread(out: &mut Vec<u8>, thread: ThreadNo) -> Result<(), OutOfMemory>
     if number >= 10 {
         out.push(b'0' + number / 10)?;
     }
-    out.push(b'0' + number % 10)?;
-    out.push(b' ')?;
+    out.extend_from_slice(&[b'0' + number % 10, b' '])?;
     Ok(())
 }
 

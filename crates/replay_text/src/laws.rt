@@ -2,13 +2,13 @@
 
 ghost use Rattle.replay_text.specs.Laws.{EachFaultIsFirst, EachHasOneText, EachIsWithinLimits};
 
-/// Each saved run within the limits has one text, which reads as it, and nothing else is read.
+/// Each saved run within the limits has one text, which reads as it, and each run that is read is within them.
 pub fn both_ways()
     ensures one { EachHasOneText }
     ensures within { EachIsWithinLimits }
 {}
 
-/// A text that is no saved run reads as its first fault.
+/// A text reads as a fault exactly where that is the first from the front.
 pub fn first_fault()
     ensures { EachFaultIsFirst }
 {}

@@ -7,13 +7,13 @@ use Rattle.replay_text.proofs.entry_line.push_thread.Goals.{then-number-ge10+in_
 pub returns-clause-ok : goal.returns-clause-ok
 returns-clause-ok c =
     let out = c.args.out.now.items in
-    let done = c.push-3.new.self.items in
+    let done = c.extend_from_slice.new.self.items in
     subst (λ n. done ≡ out ++ (decimal n ++ 32 ∷ [])) c.get-number.ensures.same
     (elim c.if-number-ge10.branch [
       | then-number-ge10+in_ok-push w ↦
-          two-digits out w.push.new.self.items c.push-2.new.self.items done c.get-number.result (omega arith) (omega arith) w.in_ok-push.ensures.items
-          (c.in_ok-push-2.ensures.items ∙ ap (λ v. v.items ++ (48 + c.get-number.result % 10) ∷ []) w.out-is) c.in_ok-push-3.ensures.items
+          two-digits out w.push.new.self.items done c.get-number.result (omega arith) (omega arith) w.in_ok-push.ensures.items
+          (c.in_ok-extend_from_slice.ensures.items ∙ ap (λ v. v.items ++ (48 + c.get-number.result % 10) ∷ 32 ∷ []) w.out-is)
       | else-number-ge10 w ↦
-          one-digit out c.push-2.new.self.items done c.get-number.result (omega arith)
-          (c.in_ok-push-2.ensures.items ∙ ap (λ v. v.items ++ (48 + c.get-number.result % 10) ∷ []) w.out-is) c.in_ok-push-3.ensures.items
+          one-digit out done c.get-number.result (omega arith)
+          (c.in_ok-extend_from_slice.ensures.items ∙ ap (λ v. v.items ++ (48 + c.get-number.result % 10) ∷ 32 ∷ []) w.out-is)
     ])
