@@ -1,4 +1,5 @@
 ghost use Rattle.std.specs.Prelude.{◌≡◌, None, length};
+ghost use Rattle.walk_rules.specs.Strategies.{asked_list};
 ghost use Rattle.walk_rules.specs.Walk.{AreChosen};
 
 use super::*;
@@ -28,9 +29,11 @@ fn step(
 ) -> Option<Picked>
     requires each { length view.now ≡ length walk.old.counts }
     requires free { walk.old.waiting ≡ None }
+    requires unasked { asked_list walk.old.rule ≡ None }
     requires chosen { AreChosen view.now }
     ensures counts { walk.new.counts ≡ walk.old.counts }
     ensures free { walk.new.waiting ≡ None }
+    ensures unasked { asked_list walk.new.rule ≡ None }
 {
     let step = walk.steps();
     if step == STEPS || view.able() == 0 || walk.wrong(view).is_some() {
