@@ -7,10 +7,11 @@ pub mod OneOrder
 pub mod OnePlan
 pub mod OneProfile
 pub mod OneProfileAnswer
+pub mod OneReplay
 pub mod OneScenario
 pub mod OneScript
-pub mod ProfileStops
 pub mod Outcomes
+pub mod ProfileStops
 pub mod Reports
 pub mod Safe
 pub mod Stops

@@ -1,5 +1,5 @@
 -- The job `draws` makes one answer of some bytes.
-use Rattle.std.proofs.Common.{◌≡◌, ℕ, List, refl, ap, sym, subst, ◌∙◌}
+use Rattle.std.proofs.Common.{◌≡◌, ℕ, List, None, refl, ap, sym, subst, ◌∙◌}
 use Rattle.draw_split.proofs.JoinedDraws.{names-one}
 use Rattle.draw_split.proofs.Refusals.{refused-only}
 use Rattle.draw_split.specs.JoinFault.{IsRefused}
@@ -42,10 +42,10 @@ unnamed-one bytes fault other is twin = refused-one is.counts is.split fault oth
 data Case (bytes : List ℕ) (answer : Answer) : Type 0 where
   Other : (number : ℕ) → IsOtherDraws bytes number → answer ≡ Refusal (Lines number) → Case bytes answer
   Unnamed : (fault : JoinFault) (refusal : Fault) → IsUnnamed bytes fault → stop_of_join fault ≡ Refused refusal → answer ≡ Refusal refusal → Case bytes answer
-  Named : (text : List ℕ) → IsDrawsReport bytes text → answer ≡ Report Done text → Case bytes answer
+  Named : (text : List ℕ) → IsDrawsReport bytes text → answer ≡ Report Done text None → Case bytes answer
 
 case : (bytes : List ℕ) (answer : Answer) → draws_answer bytes answer → Case bytes answer
-case bytes (Report Done text) is = Named text is refl
+case bytes (Report Done text None) is = Named text is refl
 case bytes (Refusal (Lines number)) is = Other number is refl
 case bytes (Refusal (Miscount thread counted seen)) is = Unnamed (join.Miscount thread counted seen) (Miscount thread counted seen) is refl refl
 case bytes (Refusal (Offsets thread counted seen)) is = Unnamed (join.Offsets thread counted seen) (Offsets thread counted seen) is refl refl
@@ -74,7 +74,7 @@ case-one bytes answer other (Unnamed fault refusal none stop is) (Unnamed cause 
 case-one bytes answer other (Unnamed fault refusal none stop is) (Named text named same) = absurd (named-unnamed bytes text fault refusal named none stop)
 case-one bytes answer other (Named text named is) (Other number wrong same) = absurd (no-wrong bytes named.counts named.split number named.form wrong)
 case-one bytes answer other (Named text named is) (Unnamed fault refusal none stop same) = absurd (named-unnamed bytes text fault refusal named none stop)
-case-one bytes answer other (Named text named is) (Named again twin same) = same ∙ ap (λ (t : List ℕ). Report Done t) (report-one bytes text again named twin) ∙ sym is
+case-one bytes answer other (Named text named is) (Named again twin same) = same ∙ ap (λ (t : List ℕ). Report Done t None) (report-one bytes text again named twin) ∙ sym is
 
 pub draws-one : MakesOne draws_answer
 draws-one bytes answer other is twin = case-one bytes answer other (case bytes answer is) (case bytes other twin)

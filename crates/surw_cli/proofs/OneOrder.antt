@@ -1,5 +1,5 @@
 -- The job `order` makes one answer of some bytes.
-use Rattle.std.proofs.Common.{◌≡◌, ℕ, List, length, refl, ap, sym, subst, ◌∙◌}
+use Rattle.std.proofs.Common.{◌≡◌, ℕ, List, None, length, refl, ap, sym, subst, ◌∙◌}
 use Rattle.draw_split.specs.Named.{Names}
 use Rattle.draw_split.specs.SplitFault.{IsRefused}
 use Rattle.draw_split.specs.declared.naming.SplitFault.{SplitFault}
@@ -41,10 +41,10 @@ misdrawn-one bytes fault other is twin =
 data Case (bytes : List ℕ) (answer : Answer) : Type 0 where
   Other : (number : ℕ) → IsOtherOrder bytes number → answer ≡ Refusal (Lines number) → Case bytes answer
   Misdrawn : (fault : SplitFault) (refusal : Fault) → IsMisdrawn bytes fault → stop_of_split fault ≡ Refused refusal → answer ≡ Refusal refusal → Case bytes answer
-  Named : (text : List ℕ) → IsOrderReport bytes text → answer ≡ Report Done text → Case bytes answer
+  Named : (text : List ℕ) → IsOrderReport bytes text → answer ≡ Report Done text None → Case bytes answer
 
 case : (bytes : List ℕ) (answer : Answer) → order_answer bytes answer → Case bytes answer
-case bytes (Report Done text) is = Named text is refl
+case bytes (Report Done text None) is = Named text is refl
 case bytes (Refusal (Lines number)) is = Other number is refl
 case bytes (Refusal (Length kept needed)) is = Misdrawn (split.Length kept needed) (Length kept needed) is refl refl
 case bytes (Refusal (Large place kept below)) is = Misdrawn (split.Large place kept below) (Large place kept below) is refl refl
@@ -73,7 +73,7 @@ case-one bytes answer other (Misdrawn fault refusal drawn stop is) (Misdrawn cau
 case-one bytes answer other (Misdrawn fault refusal drawn stop is) (Named text named same) = absurd (named-misdrawn bytes text fault refusal named drawn stop)
 case-one bytes answer other (Named text named is) (Other number wrong same) = absurd (no-wrong bytes named.counts named.draws number named.form wrong)
 case-one bytes answer other (Named text named is) (Misdrawn fault refusal drawn stop same) = absurd (named-misdrawn bytes text fault refusal named drawn stop)
-case-one bytes answer other (Named text named is) (Named again twin same) = same ∙ ap (λ (t : List ℕ). Report Done t) (report-one bytes text again named twin) ∙ sym is
+case-one bytes answer other (Named text named is) (Named again twin same) = same ∙ ap (λ (t : List ℕ). Report Done t None) (report-one bytes text again named twin) ∙ sym is
 
 pub order-one : MakesOne order_answer
 order-one bytes answer other is twin = case-one bytes answer other (case bytes answer is) (case bytes other twin)

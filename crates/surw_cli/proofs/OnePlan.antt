@@ -1,5 +1,5 @@
 -- The job `plan` makes one answer of some bytes.
-use Rattle.std.proofs.Common.{◌≡◌, ℕ, List, refl, ap, sym, subst, ◌∙◌}
+use Rattle.std.proofs.Common.{◌≡◌, ℕ, List, Option, refl, ap, sym, subst, ◌∙◌}
 use Rattle.fault_text.specs.declared.fault.Fault.TheVariants.{Scenario, ProfileStepLimit, ProfileDeadlock}
 use Rattle.pure_run.specs.declared.profiling.ProfileFault.TheVariants.{StepLimit, Deadlock}
 use Rattle.report_text.specs.Report.{report_text}
@@ -12,6 +12,7 @@ use Rattle.surw_cli.specs.Answer.{Answer, Report, Refusal}
 use Rattle.surw_cli.specs.Counts.{IsUncounted}
 use Rattle.surw_cli.specs.PlanAnswer.{plan_answer}
 use Rattle.surw_cli.specs.Planned.{IsRunOf, no_choice, status_of_run}
+use Rattle.surw_cli.specs.Saved.{saved_file}
 use Rattle.surw_cli.specs.Script.{script}
 use Rattle.surw_cli.proofs.OneCounts.{counts-one, never-uncounted}
 use Rattle.surw_cli.proofs.OneFile.{MakesOne}
@@ -27,29 +28,34 @@ outcome-one scenario outcome other is twin =
     let same : script twin.plan ≡ script is.plan = script-one scenario no_choice is.counts is.plan twin.plan is.planned planned in
     one-outcome (script is.plan) outcome other is.run (subst (λ (s : Script). IsRun s other) same twin.run)
 
+-- the report of a run of the scenario that is in these bytes
+abbrev report_of : Option (List ℕ) → List ℕ → Outcome → Answer
+report_of save bytes outcome = Report (status_of_run outcome) (report_text outcome) (saved_file save bytes outcome.journal)
+
 -- the answer is the report of a scenario's run
-record HasRun (scenario : ScenarioState) (answer : Answer) : Type 0 where
+record HasRun (save : Option (List ℕ)) (bytes : List ℕ) (scenario : ScenarioState) (answer : Answer) : Type 0 where
   pub outcome : Outcome
   pub run : IsRunOf scenario outcome
-  pub is : answer ≡ Report (status_of_run outcome) (report_text outcome)
+  pub is : answer ≡ report_of save bytes outcome
 
-one-report : MakesOneOf HasRun IsUncounted
-one-report = record {
+one-report : (save : Option (List ℕ)) (bytes : List ℕ) → MakesOneOf (HasRun save bytes) IsUncounted
+one-report save bytes = record {
   reports = λ scenario answer other has twin.
       twin.is
-      ∙ ap (λ (outcome : Outcome). Report (status_of_run outcome) (report_text outcome)) (outcome-one scenario has.outcome twin.outcome has.run twin.run)
+      ∙ ap (report_of save bytes) (outcome-one scenario has.outcome twin.outcome has.run twin.run)
       ∙ sym has.is;
   apart = λ scenario answer fault refusal has none stop. never-uncounted scenario has.run.counts fault refusal has.run.counted none stop;
   stops = λ scenario fault other refusal twin none are stop again. refusal-one scenario fault other refusal twin none.cause are.cause stop again;
 }
 
-case : (bytes : List ℕ) (answer : Answer) → plan_answer bytes answer → Case HasRun IsUncounted bytes answer
-case bytes (Report status text) is =
-    Reported is.scenario is.form (record { outcome = is.outcome; run = is.run; is = λ i. Report (is.ends i) (is.printed i) })
-case bytes (Refusal (Scenario fault)) is = Faulty fault is refl
-case bytes (Refusal ProfileStepLimit) is = Stopped is.scenario is.form StepLimit ProfileStepLimit is.stopped refl refl
-case bytes (Refusal (ProfileDeadlock step)) is = Stopped is.scenario is.form (Deadlock step) (ProfileDeadlock step) is.stopped refl refl
-case bytes (Refusal _) is = absurd is
+case : (save : Option (List ℕ)) (bytes : List ℕ) (answer : Answer) → plan_answer save bytes answer → Case (HasRun save bytes) IsUncounted bytes answer
+case save bytes (Report status text saved) is =
+    Reported is.scenario is.form (record { outcome = is.outcome; run = is.run; is = λ i. Report (is.ends i) (is.printed i) (is.kept i) })
+case save bytes (Refusal (Scenario fault)) is = Faulty fault is refl
+case save bytes (Refusal ProfileStepLimit) is = Stopped is.scenario is.form StepLimit ProfileStepLimit is.stopped refl refl
+case save bytes (Refusal (ProfileDeadlock step)) is = Stopped is.scenario is.form (Deadlock step) (ProfileDeadlock step) is.stopped refl refl
+case save bytes (Refusal _) is = absurd is
 
-pub plan-one : MakesOne plan_answer
-plan-one bytes answer other is twin = case-one HasRun IsUncounted one-report bytes answer other (case bytes answer is) (case bytes other twin)
+pub plan-one : (save : Option (List ℕ)) → MakesOne (plan_answer save)
+plan-one save bytes answer other is twin =
+    case-one (HasRun save bytes) IsUncounted (one-report save bytes) bytes answer other (case save bytes answer is) (case save bytes other twin)

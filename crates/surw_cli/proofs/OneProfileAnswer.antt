@@ -1,5 +1,5 @@
 -- The job `profile` makes one answer of some bytes.
-use Rattle.std.proofs.Common.{◌≡◌, ℕ, List, refl, ap, sym, ◌∙◌}
+use Rattle.std.proofs.Common.{◌≡◌, ℕ, List, None, refl, ap, sym, ◌∙◌}
 use Rattle.fault_text.specs.declared.fault.Fault.TheVariants.{Scenario, ProfileStepLimit, ProfileDeadlock}
 use Rattle.pure_run.specs.declared.profiling.ProfileFault.TheVariants.{StepLimit, Deadlock}
 use Rattle.report_text.specs.ProfileText.{profile_text}
@@ -17,7 +17,7 @@ record HasProfile (scenario : ScenarioState) (answer : Answer) : Type 0 where
   pub selected : List ℕ
   pub all : List ℕ
   pub profile : IsProfileOf scenario selected all
-  pub is : answer ≡ Report Done (profile_text selected all)
+  pub is : answer ≡ Report Done (profile_text selected all) None
 
 texts-one : (selected all others totals : List ℕ) → (others ≡ selected) × (totals ≡ all) → profile_text others totals ≡ profile_text selected all
 texts-one selected all others totals same = λ i. profile_text (same.0 i) (same.1 i)
@@ -26,7 +26,7 @@ one-report : MakesOneOf HasProfile IsUnprofiled
 one-report = record {
   reports = λ scenario answer other has twin.
       twin.is
-      ∙ ap (λ (text : List ℕ). Report Done text)
+      ∙ ap (λ (text : List ℕ). Report Done text None)
       (texts-one has.selected has.all twin.selected twin.all (profile-one scenario has.selected has.all twin.selected twin.all has.profile twin.profile))
       ∙ sym has.is;
   apart = λ scenario answer fault refusal has none stop. never-refused scenario has.selected has.all fault refusal has.profile none stop;
@@ -34,9 +34,9 @@ one-report = record {
 }
 
 case : (bytes : List ℕ) (answer : Answer) → profile_answer bytes answer → Case HasProfile IsUnprofiled bytes answer
-case bytes (Report Done text) is =
+case bytes (Report Done text None) is =
     Reported is.scenario is.form
-    (record { selected = is.selected; all = is.all; profile = is.profile; is = ap (λ (t : List ℕ). Report Done t) is.printed })
+    (record { selected = is.selected; all = is.all; profile = is.profile; is = ap (λ (t : List ℕ). Report Done t None) is.printed })
 case bytes (Refusal (Scenario fault)) is = Faulty fault is refl
 case bytes (Refusal ProfileStepLimit) is = Stopped is.scenario is.form StepLimit ProfileStepLimit is.stopped refl refl
 case bytes (Refusal (ProfileDeadlock step)) is = Stopped is.scenario is.form (Deadlock step) (ProfileDeadlock step) is.stopped refl refl

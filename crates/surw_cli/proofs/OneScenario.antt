@@ -25,13 +25,13 @@ pub record MakesOneOf (IsReport : ScenarioState → Answer → Type 0) (IsStoppe
   pub stops : (scenario : ScenarioState) (fault other : ProfileFault) (refusal twin : Fault) → IsStopped scenario fault → IsStopped scenario other
       → stop_of_profile fault ≡ Refused refusal → stop_of_profile other ≡ Refused twin → twin ≡ refusal
 
-scenario-one : (bytes : List ℕ) (scenario twin : ScenarioState) → scenario_of bytes ≡ Ok scenario → scenario_of bytes ≡ Ok twin → twin ≡ scenario
+pub scenario-one : (bytes : List ℕ) (scenario twin : ScenarioState) → scenario_of bytes ≡ Ok scenario → scenario_of bytes ≡ Ok twin → twin ≡ scenario
 scenario-one bytes scenario twin is are = let results : Ok twin ≡ Ok scenario = sym are ∙ is in cc results
 
-fault-one : (bytes : List ℕ) (fault other : ScenarioFault) → scenario_of bytes ≡ Err fault → scenario_of bytes ≡ Err other → other ≡ fault
+pub fault-one : (bytes : List ℕ) (fault other : ScenarioFault) → scenario_of bytes ≡ Err fault → scenario_of bytes ≡ Err other → other ≡ fault
 fault-one bytes fault other is are = let results : Err other ≡ Err fault = sym are ∙ is in cc results
 
-no-fault : (bytes : List ℕ) (scenario : ScenarioState) (fault : ScenarioFault) → scenario_of bytes ≡ Ok scenario → scenario_of bytes ≡ Err fault → ⊥
+pub no-fault : (bytes : List ℕ) (scenario : ScenarioState) (fault : ScenarioFault) → scenario_of bytes ≡ Ok scenario → scenario_of bytes ≡ Err fault → ⊥
 no-fault bytes scenario fault is refused = cc (sym refused ∙ is)
 
 module _ (IsReport : ScenarioState → Answer → Type 0) (IsStopped : ScenarioState → ProfileFault → Type 0) (one : MakesOneOf IsReport IsStopped) (bytes : List ℕ) where

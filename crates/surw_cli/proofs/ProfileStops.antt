@@ -17,11 +17,11 @@ use Rattle.scenario_toml.specs.declared.strategy.Strategy.{Strategy}
 use Rattle.scenario_toml.specs.declared.strategy.Strategy.TheVariants.{Urw, Surw, Pct, Plain}
 use Rattle.seed_draws.specs.declared.any_draws.AnyDraws.{AnyDraws}
 use Rattle.surw_cli.specs.Counts.{IsUncounted, counted_by}
-use Rattle.surw_cli.specs.PlanAnswer.{plan_answer}
+use Rattle.surw_cli.specs.PlanAnswer.{IsUnplanned}
 use Rattle.surw_cli.specs.ProfileAnswer.{profile_answer}
 use Rattle.surw_cli.specs.Profiled.{IsProfileOf, IsProfilePlan, IsUnprofiled}
 use Rattle.surw_cli.specs.Script.{script}
-use Rattle.surw_cli.specs.Stop.{IsStopOf, stop_of_profile}
+use Rattle.surw_cli.specs.Stop.{IsStopBy, IsStopOf, stop_of_profile}
 
 -- a profile that stops is the scenario's
 pub unprofiled : (scenario : ScenarioState) (plan : Plan AnyRoutine AnyDraws AnyDraws) (fault : ProfileFault) → IsProfilePlan scenario plan
@@ -39,7 +39,7 @@ profile-stop bytes scenario OutOfMemory form stopped = tt
 
 -- and the job `plan`
 pub plan-stop : (bytes : List ℕ) (scenario : ScenarioState) (fault : ProfileFault) → scenario_of bytes ≡ Ok scenario → IsUncounted scenario fault
-    → IsStopOf (plan_answer bytes) (stop_of_profile fault)
+    → IsStopBy (IsUnplanned bytes) (stop_of_profile fault)
 plan-stop bytes scenario StepLimit form stopped = record { scenario = scenario; form = form; stopped = stopped }
 plan-stop bytes scenario (Deadlock step) form stopped = record { scenario = scenario; form = form; stopped = stopped }
 plan-stop bytes scenario OutOfMemory form stopped = tt

@@ -1,32 +1,87 @@
 -- How the top call ends where no device fails.
-use Rattle.std.proofs.Common.{◌≡◌, ◌≢◌, ◌⊎◌, ℕ, List, Some, inl, inr, ⊎_elim, refl}
+use Rattle.std.proofs.Common.{◌≡◌, ◌≢◌, ◌⊎◌, ℕ, List, Option, Some, None, inl, inr, ⊎_elim, refl}
+use Rattle.fault_text.specs.declared.fault.Fault.TheVariants.{Read}
 use Rattle.surw_io.specs.Cause.{Rose}
-use Rattle.surw_io.specs.Content.{Missing}
-use Rattle.surw_cli.specs.Answer.{Report, Refusal}
+use Rattle.surw_io.specs.Content.{Entry, Missing}
+use Rattle.surw_base.specs.declared.limits.TheConstants.{SAVED_LIMIT}
+use Rattle.scenario_toml.specs.State.{ScenarioState}
+use Rattle.surw_cli.specs.Answer.{Answer, Report, Refusal}
+use Rattle.surw_cli.specs.Ask.{file_limit}
+use Rattle.surw_cli.specs.CommandAnswer.{Files, IsAnswer, NoJob, OfJob, answer_of, answer_to, saved_name}
 use Rattle.surw_cli.specs.Ending.{Call, Ends, IsAnswered, WasRefused, WasReported}
+use Rattle.surw_cli.specs.FileAnswer.{Coming, IsFileAnswer, Absent, Long, Held}
+use Rattle.surw_cli.specs.ReplayAnswer.{IsReplayAnswer, NoScenario, OfSaved, replayed_answer}
+use Rattle.surw_cli.specs.declared.ask.Job.{Job}
+use Rattle.surw_cli.specs.declared.ask.Job.TheVariants.{Order, Draws, Plan, Profile, Check, Run, Replay}
 use Rattle.surw_cli.specs.declared.status.Status.{Status}
 use Rattle.surw_cli.specs.declared.status.Status.TheVariants.{Done, Failing, Words, Form, WrongCount, Asked, SavedForm, StepLimit, ReadFault, WriteFault, OutOfMemory, Draw, TooLong}
 
-reported : (call : Call) (status : Status) → WasReported call status → IsAnswered call.jobs call.words call.coming status
-reported call status was = record { answer = Report status was.text; cause = was.cause; is = refl }
+-- ---- where every name has a file, no answer is a fault of reading
 
-refused : (call : Call) (status : Status) → WasRefused call status → IsAnswered call.jobs call.words call.coming status
+file-there : (limit : ℕ) (IsMade : List ℕ → Answer → Type 0) (coming : Option Entry) → coming ≢ Some Missing → ((bytes : List ℕ) → IsMade bytes (Refusal Read) → ⊥)
+    → IsFileAnswer limit IsMade coming (Refusal Read) → ⊥
+file-there limit IsMade coming there none (Absent missing is) = there missing
+file-there limit IsMade coming there none (Long long is) = cc is
+file-there limit IsMade coming there none (Held bytes file made) = none bytes made
+
+replay-there : (bytes : List ℕ) (coming : Option Entry) → coming ≢ Some Missing → IsReplayAnswer bytes coming (Refusal Read) → ⊥
+replay-there bytes coming there (NoScenario fault wrong is) = cc is
+replay-there bytes coming there (OfSaved scenario form made) =
+    file-there SAVED_LIMIT (replayed_answer bytes scenario) coming there (λ saved_bytes none. none) made
+
+job-there : (job : Job) (saved save : Option (List ℕ)) (second : Coming) (bytes : List ℕ) → ((name : List ℕ) → second name ≢ Some Missing)
+    → answer_of job saved save second bytes (Refusal Read) → ⊥
+job-there Order saved save second bytes there made = made
+job-there Draws saved save second bytes there made = made
+job-there Plan saved save second bytes there made = made
+job-there Profile saved save second bytes there made = made
+job-there Check saved save second bytes there made = made
+job-there Run saved save second bytes there made = made
+job-there Replay saved save second bytes there made = replay-there bytes (second (saved_name saved)) (there (saved_name saved)) made
+
+never-read : (jobs : List Job) (words : List (List ℕ)) (files : Files) → ((name : List ℕ) → files.first name ≢ Some Missing)
+    → ((name : List ℕ) → files.second name ≢ Some Missing) → IsAnswer jobs words files (Refusal Read) → ⊥
+never-read jobs words files first second (NoJob none is) = cc is
+never-read jobs words files first second (OfJob ask asked made) =
+    file-there (file_limit ask.job) (answer_to ask files.second) (files.first ask.name) (first ask.name)
+    (λ bytes made. job-there ask.job ask.saved ask.save files.second bytes second made) made
+
+-- ---- how it ends
+
+reported : (call : Call) (status : Status) → WasReported call status → IsAnswered call.jobs call.words call.files status
+reported call status was = record { answer = Report status was.text was.saved; cause = was.cause; is = refl }
+
+refused : (call : Call) (status : Status) → WasRefused call status → IsAnswered call.jobs call.words call.files status
 refused call status was = record { answer = Refusal was.fault; cause = was.cause; is = was.is }
 
--- where no count rose and every name has a file, the status is that of the answer, or there was no memory
-pub safe-answered : (call : Call) (status : Status) → (Rose call.shelf_before call.shelf_now → ⊥) → (Rose call.sink_before call.sink_now → ⊥)
-    → ((name : List ℕ) → call.coming name ≢ Some Missing) → Ends call status
-    → (status ≡ OutOfMemory) ⊎ IsAnswered call.jobs call.words call.coming status
-safe-answered call Done shelf sink there ends = inr (reported call Done ends)
-safe-answered call Failing shelf sink there ends = inr (reported call Failing ends)
-safe-answered call WrongCount shelf sink there ends = inr (reported call WrongCount ends)
-safe-answered call StepLimit shelf sink there ends = inr (reported call StepLimit ends)
-safe-answered call Words shelf sink there ends = inr (refused call Words ends)
-safe-answered call Form shelf sink there ends = inr (refused call Form ends)
-safe-answered call ReadFault shelf sink there ends = absurd (⊎_elim (λ rose. shelf rose) (λ missing. there _ missing.1) ends.cause.cause)
-safe-answered call WriteFault shelf sink there ends = absurd (sink ends.told.rose)
-safe-answered call OutOfMemory shelf sink there ends = inl refl
-safe-answered call Draw shelf sink there ends = inr (⊎_elim (reported call Draw) (refused call Draw) ends)
-safe-answered call TooLong shelf sink there ends = inr (refused call TooLong ends)
-safe-answered call Asked shelf sink there ends = inr (reported call Asked ends)
-safe-answered call SavedForm shelf sink there ends = absurd ends
+-- no count rose, and every name has a file
+pub record IsSafe (call : Call) : Type 0 where
+  pub opens : Rose call.before.in_faults call.now.in_faults → ⊥
+  pub creates : Rose call.before.out_faults call.now.out_faults → ⊥
+  pub sink : Rose call.before.sink_faults call.now.sink_faults → ⊥
+  pub first : (name : List ℕ) → call.files.first name ≢ Some Missing
+  pub second : (name : List ℕ) → call.files.second name ≢ Some Missing
+
+-- then there is no fault of reading or writing
+pub never-read-fault : (call : Call) → IsSafe call → Ends call ReadFault → ⊥
+never-read-fault call safe ends =
+    ⊎_elim (λ rose. safe.opens rose) (λ none. never-read call.jobs call.words call.files safe.first safe.second none.1) ends.cause
+
+pub never-write-fault : (call : Call) → IsSafe call → Ends call WriteFault → ⊥
+never-write-fault call safe ends = ⊎_elim (λ at_report. safe.sink at_report.told.rose) (λ at_file. safe.creates at_file.kept.rose) ends
+
+-- and the status is that of the answer, or there was no memory
+pub safe-answered : (call : Call) (status : Status) → IsSafe call → Ends call status → (status ≡ OutOfMemory) ⊎ IsAnswered call.jobs call.words call.files status
+safe-answered call Done safe ends = inr (reported call Done ends)
+safe-answered call Failing safe ends = inr (reported call Failing ends)
+safe-answered call WrongCount safe ends = inr (reported call WrongCount ends)
+safe-answered call StepLimit safe ends = inr (reported call StepLimit ends)
+safe-answered call Words safe ends = inr (refused call Words ends)
+safe-answered call Form safe ends = inr (refused call Form ends)
+safe-answered call ReadFault safe ends = absurd (never-read-fault call safe ends)
+safe-answered call WriteFault safe ends = absurd (never-write-fault call safe ends)
+safe-answered call OutOfMemory safe ends = inl refl
+safe-answered call Draw safe ends = inr (⊎_elim (reported call Draw) (refused call Draw) ends)
+safe-answered call TooLong safe ends = inr (refused call TooLong ends)
+safe-answered call Asked safe ends = inr (reported call Asked ends)
+safe-answered call SavedForm safe ends = inr (refused call SavedForm ends)

@@ -1,39 +1,55 @@
--- The answer to a command line, where no device fails: the words and what the shelf gives for a name decide it.
-use Rattle.std.specs.Prelude.{◌≡◌, ℕ, List, Option}
+-- The answer to a command line, where no device fails: the words and what the shelf gives for names decide it.
+use Rattle.std.specs.Prelude.{◌≡◌, ℕ, List, [], Option, Some, unwrap_or}
 use Rattle.std.specs.Option.{IsSome}
 use Rattle.fault_text.specs.declared.fault.Fault.TheVariants.{Words}
-use Rattle.surw_base.specs.declared.limits.TheConstants.{FILE_LIMIT}
-use Rattle.surw_io.specs.Content.{Entry}
+use Rattle.surw_io.specs.Content.{File}
 use Rattle.surw_cli.specs.Answer.{Answer, Refusal}
-use Rattle.surw_cli.specs.Ask.{Ask, AsksFor, AsksForNothing}
+use Rattle.surw_cli.specs.Ask.{Ask, AsksFor, AsksForNothing, file_limit}
+use Rattle.surw_cli.specs.CheckAnswer.{check_answer}
 use Rattle.surw_cli.specs.DrawsAnswer.{draws_answer}
-use Rattle.surw_cli.specs.FileAnswer.{IsFileAnswer}
+use Rattle.surw_cli.specs.FileAnswer.{Coming, IsFileAnswer}
 use Rattle.surw_cli.specs.OrderAnswer.{order_answer}
 use Rattle.surw_cli.specs.PlanAnswer.{plan_answer}
 use Rattle.surw_cli.specs.ProfileAnswer.{profile_answer}
+use Rattle.surw_cli.specs.ReplayAnswer.{IsReplayAnswer}
 use Rattle.surw_cli.specs.declared.ask.Job.{Job}
-use Rattle.surw_cli.specs.declared.ask.Job.TheVariants.{Order, Draws, Plan, Profile, Run}
+use Rattle.surw_cli.specs.declared.ask.Job.TheVariants.{Order, Draws, Plan, Profile, Check, Run, Replay}
 
--- what the shelf gives for a name, where it tells it
-abbrev pub Coming : Type 0
-Coming = List ℕ → Option Entry
+-- what a shelf gives for a name at the next open, and at the one after it
+pub record Files : Type 0 where
+  pub first : Coming
+  pub second : Coming
 
--- the answer of each job to the bytes of its file; a run on threads of its own answers what one on the caller's does
-abbrev pub answer_of_job : Job → List ℕ → Answer → Type 0
-answer_of_job Order bytes answer = order_answer bytes answer
-answer_of_job Draws bytes answer = draws_answer bytes answer
-answer_of_job Plan bytes answer = plan_answer bytes answer
-answer_of_job Profile bytes answer = profile_answer bytes answer
-answer_of_job Run bytes answer = plan_answer bytes answer
+-- one file under every name at the next open, and one at each later one
+abbrev pub safe_files : List ℕ → List ℕ → Files
+safe_files first second = record { first = λ _. Some (File first); second = λ _. Some (File second) }
+
+-- the name of a saved file; where there is none, none is looked at
+abbrev pub saved_name : Option (List ℕ) → List ℕ
+saved_name name = unwrap_or name []
+
+-- what a job answers to the bytes of its file; a run on threads of its own answers what one on the caller's does. A saved
+-- file is opened after it
+abbrev pub answer_of : Job → Option (List ℕ) → Option (List ℕ) → Coming → List ℕ → Answer → Type 0
+answer_of Order saved save second bytes answer = order_answer bytes answer
+answer_of Draws saved save second bytes answer = draws_answer bytes answer
+answer_of Plan saved save second bytes answer = plan_answer save bytes answer
+answer_of Profile saved save second bytes answer = profile_answer bytes answer
+answer_of Check saved save second bytes answer = check_answer bytes answer
+answer_of Run saved save second bytes answer = plan_answer save bytes answer
+answer_of Replay saved save second bytes answer = IsReplayAnswer bytes (second (saved_name saved)) answer
+
+abbrev pub answer_to : Ask → Coming → List ℕ → Answer → Type 0
+answer_to ask second = answer_of ask.job ask.saved ask.save second
 
 -- the answer to what is asked for
-abbrev pub IsAskAnswer : Ask → Coming → Answer → Type 0
-IsAskAnswer ask coming answer = IsFileAnswer FILE_LIMIT (answer_of_job ask.job) (coming ask.name) answer
+abbrev pub IsAskAnswer : Ask → Files → Answer → Type 0
+IsAskAnswer ask files answer = IsFileAnswer (file_limit ask.job) (answer_to ask files.second) (files.first ask.name) answer
 
 -- the words ask for none of these jobs and are refused, or the answer is that to what they ask for
-pub data IsAnswer (jobs : List Job) (words : List (List ℕ)) (coming : Coming) (answer : Answer) : Type 0 where
-  NoJob : AsksForNothing jobs words → answer ≡ Refusal Words → IsAnswer jobs words coming answer
-  OfJob : (ask : Ask) → AsksFor jobs words ask → IsAskAnswer ask coming answer → IsAnswer jobs words coming answer
+pub data IsAnswer (jobs : List Job) (words : List (List ℕ)) (files : Files) (answer : Answer) : Type 0 where
+  NoJob : AsksForNothing jobs words → answer ≡ Refusal Words → IsAnswer jobs words files answer
+  OfJob : (ask : Ask) → AsksFor jobs words ask → IsAskAnswer ask files answer → IsAnswer jobs words files answer
 
 -- the shelf tells of each name what it gives
 abbrev pub TellsAll : Coming → Type 0
@@ -41,5 +57,5 @@ TellsAll coming = (name : List ℕ) → IsSome (coming name)
 
 -- no two answers hold of one command line, over a shelf that tells what it gives
 abbrev pub OneAnswer : Type 0
-OneAnswer = (jobs : List Job) (words : List (List ℕ)) (coming : Coming) → TellsAll coming
-    → (answer other : Answer) → IsAnswer jobs words coming answer → IsAnswer jobs words coming other → other ≡ answer
+OneAnswer = (jobs : List Job) (words : List (List ℕ)) (files : Files) → TellsAll files.first → TellsAll files.second
+    → (answer other : Answer) → IsAnswer jobs words files answer → IsAnswer jobs words files other → other ≡ answer

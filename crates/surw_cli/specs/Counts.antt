@@ -5,12 +5,13 @@ use Rattle.scenario_toml.specs.declared.counts_rule.CountsRule.{CountsRule}
 use Rattle.scenario_toml.specs.declared.counts_rule.CountsRule.TheVariants.{Profile, Given}
 use Rattle.scenario_toml.specs.declared.strategy.Strategy.{Strategy}
 use Rattle.scenario_toml.specs.declared.strategy.Strategy.TheVariants.{Plain, Surw}
+use Rattle.scenario_toml.specs.FollowPlan.{no_counts}
 use Rattle.scenario_toml.specs.State.{ScenarioState}
-use Rattle.surw_cli.specs.Profiled.{IsProfileOf, IsUnprofiled, zeros}
+use Rattle.surw_cli.specs.Profiled.{IsProfileOf, IsUnprofiled}
 
 -- where the counts come from: the plain strategy looks at none, so under it zeros are given; else the file says
 abbrev pub rule_by : Strategy → ScenarioState → CountsRule
-rule_by Plain scenario = Given (zeros scenario)
+rule_by Plain scenario = Given (no_counts scenario)
 rule_by strategy scenario = scenario.counts
 
 -- what a strategy counts: SURW the selected events, each other strategy all events

@@ -1,5 +1,5 @@
 -- The answer of the job `draws` to the bytes of its file.
-use Rattle.std.specs.Prelude.{◌≡◌, ℕ, List}
+use Rattle.std.specs.Prelude.{None, ◌≡◌, ℕ, List}
 use Rattle.draw_split.specs.JoinFault.{IsRefused}
 use Rattle.draw_split.specs.Named.{Names}
 use Rattle.draw_split.specs.Split.{Parts}
@@ -29,7 +29,7 @@ pub record IsUnnamed (bytes : List ℕ) (fault : JoinFault) : Type 0 where
 
 -- no two cases hold of one file
 abbrev pub draws_answer : List ℕ → Answer → Type 0
-draws_answer bytes (Report Done text) = IsDrawsReport bytes text
+draws_answer bytes (Report Done text None) = IsDrawsReport bytes text
 draws_answer bytes (Refusal (Lines number)) = IsOtherDraws bytes number
 draws_answer bytes (Refusal (Miscount thread counted seen)) = IsUnnamed bytes (join.Miscount thread counted seen)
 draws_answer bytes (Refusal (Offsets thread counted seen)) = IsUnnamed bytes (join.Offsets thread counted seen)

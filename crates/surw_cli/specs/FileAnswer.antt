@@ -5,6 +5,10 @@ use Rattle.surw_io.specs.Content.{Entry, Missing, IsFileOf}
 use Rattle.surw_io.specs.Fetch.{IsLongerThan}
 use Rattle.surw_cli.specs.Answer.{Answer, Refusal}
 
+-- what a shelf gives for a name, where it tells it
+abbrev pub Coming : Type 0
+Coming = List ℕ → Option Entry
+
 -- the file is there and has at most so many bytes, and these are they
 pub record HasFile (limit : ℕ) (coming : Option Entry) (bytes : List ℕ) : Type 0 where
   pub held : IsFileOf coming bytes

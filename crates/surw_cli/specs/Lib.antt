@@ -1,6 +1,7 @@
 pub mod Answer
 pub mod Ask
 pub mod Asked
+pub mod CheckAnswer
 pub mod CommandAnswer
 pub mod CommandLine
 pub mod Counts
@@ -13,6 +14,8 @@ pub mod Planned
 pub mod ProfileAnswer
 pub mod Profiled
 pub mod Reached
+pub mod ReplayAnswer
+pub mod Saved
 pub mod Script
 pub mod Status
 pub mod Stop

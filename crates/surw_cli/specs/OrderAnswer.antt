@@ -1,5 +1,5 @@
 -- The answer of the job `order` to the bytes of its file.
-use Rattle.std.specs.Prelude.{◌≡◌, ℕ, List, length}
+use Rattle.std.specs.Prelude.{None, ◌≡◌, ℕ, List, length}
 use Rattle.draw_split.specs.Named.{Names}
 use Rattle.draw_split.specs.Split.{Parts}
 use Rattle.draw_split.specs.SplitFault.{IsRefused}
@@ -29,7 +29,7 @@ pub record IsMisdrawn (bytes : List ℕ) (fault : SplitFault) : Type 0 where
 
 -- no two cases hold of one file
 abbrev pub order_answer : List ℕ → Answer → Type 0
-order_answer bytes (Report Done text) = IsOrderReport bytes text
+order_answer bytes (Report Done text None) = IsOrderReport bytes text
 order_answer bytes (Refusal (Lines number)) = IsOtherOrder bytes number
 order_answer bytes (Refusal (Length kept needed)) = IsMisdrawn bytes (split.Length kept needed)
 order_answer bytes (Refusal (Large place kept below)) = IsMisdrawn bytes (split.Large place kept below)

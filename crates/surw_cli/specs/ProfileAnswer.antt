@@ -1,5 +1,5 @@
 -- The answer of the job `profile` to the bytes of its file.
-use Rattle.std.specs.Prelude.{◌≡◌, ℕ, List, Ok, Err}
+use Rattle.std.specs.Prelude.{None, ◌≡◌, ℕ, List, Ok, Err}
 use Rattle.pure_run.specs.declared.profiling.ProfileFault.{ProfileFault}
 use Rattle.pure_run.specs.declared.profiling.ProfileFault.TheVariants as profile
 use Rattle.report_text.specs.ProfileText.{profile_text}
@@ -27,7 +27,7 @@ pub record HasNoProfile (bytes : List ℕ) (fault : ProfileFault) : Type 0 where
 
 -- no two cases hold of one file
 abbrev pub profile_answer : List ℕ → Answer → Type 0
-profile_answer bytes (Report Done text) = IsProfileReport bytes text
+profile_answer bytes (Report Done text None) = IsProfileReport bytes text
 profile_answer bytes (Refusal (Scenario fault)) = scenario_of bytes ≡ Err fault
 profile_answer bytes (Refusal ProfileStepLimit) = HasNoProfile bytes profile.StepLimit
 profile_answer bytes (Refusal (ProfileDeadlock step)) = HasNoProfile bytes (profile.Deadlock step)

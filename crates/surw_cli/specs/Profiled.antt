@@ -1,5 +1,5 @@
 -- The profile of a scenario.
-use Rattle.std.specs.Prelude.{ℕ, List, length, replicate, None, Some}
+use Rattle.std.specs.Prelude.{ℕ, List, None, Some}
 use Rattle.pure_run.specs.declared.profiling.ProfileFault.{ProfileFault}
 use Rattle.pure_run.specs.declared.profiling.ProfileFault.TheVariants.{OutOfMemory}
 use Rattle.pure_run.specs.Profile.{IsProfile, IsProfileStop}
@@ -7,6 +7,7 @@ use Rattle.routine_kit.specs.declared.any_routine.AnyRoutine.{AnyRoutine}
 use Rattle.run_rules.specs.declared.plan.Plan.{Plan}
 use Rattle.scenario_toml.specs.declared.choice.Choice.{Choice}
 use Rattle.scenario_toml.specs.declared.strategy.Strategy.TheVariants.{Plain}
+use Rattle.scenario_toml.specs.FollowPlan.{no_counts}
 use Rattle.scenario_toml.specs.Plan.{IsPlanOf}
 use Rattle.scenario_toml.specs.State.{ScenarioState}
 use Rattle.seed_draws.specs.declared.any_draws.AnyDraws.{AnyDraws}
@@ -16,13 +17,9 @@ use Rattle.surw_cli.specs.Script.{script}
 abbrev pub plain_choice : Choice
 plain_choice = record { strategy = Some Plain; seed = None; depth = None }
 
--- a count of 0 for each thread
-abbrev pub zeros : ScenarioState → List ℕ
-zeros scenario = replicate (length scenario.routines) 0
-
 -- the plan that is profiled: under the plain strategy, so that the events selected are those that the file says
 abbrev pub IsProfilePlan : ScenarioState → Plan AnyRoutine AnyDraws AnyDraws → Type 0
-IsProfilePlan scenario plan = IsPlanOf scenario plain_choice (zeros scenario) plan
+IsProfilePlan scenario plan = IsPlanOf scenario plain_choice (no_counts scenario) plan
 
 -- how many selected events and how many events each thread made in the run that the scenario's seed gives
 pub record IsProfileOf (scenario : ScenarioState) (selected all : List ℕ) : Type 0 where

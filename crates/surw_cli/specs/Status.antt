@@ -34,3 +34,5 @@ status_of (fault.TooLong limit) = TooLong
 status_of (fault.Scenario cause) = Form
 status_of fault.ProfileStepLimit = Form
 status_of (fault.ProfileDeadlock step) = Form
+status_of (fault.Replay cause) = SavedForm
+status_of (fault.OtherScenario kept needed) = SavedForm

@@ -26,13 +26,21 @@ pub fn status_of_words<H: Threads + Wait + Sync, F: Shelf, O: Sink, G: Stage>(
     ensures ends { let call : Call = record {
       jobs = all_jobs;
       words = given_words words;
-      coming = F.coming shelf.old;
-      shelf_before = F.in_faults shelf.old;
-      shelf_now = F.in_faults shelf.new;
-      sink_before = O.faults out.old;
-      sink_now = O.faults out.new;
-      taken_before = O.taken out.old;
-      taken_now = O.taken out.new;
+      files = record { first = F.coming shelf.old; second = F.coming_after shelf.old };
+      before = record {
+        in_faults = F.in_faults shelf.old;
+        out_faults = F.out_faults shelf.old;
+        made = F.made shelf.old;
+        sink_faults = O.faults out.old;
+        taken = O.taken out.old;
+      };
+      now = record {
+        in_faults = F.in_faults shelf.new;
+        out_faults = F.out_faults shelf.new;
+        made = F.made shelf.new;
+        sink_faults = O.faults out.new;
+        taken = O.taken out.new;
+      };
     } in Ends call result }
     ensures no_text { IfErr words (λ error. error_kind error ≡ ErrorKind.InvalidData → result ≡ Status.Words) }
     ensures no_memory { IfErr words (λ error. (error_kind error ≡ ErrorKind.InvalidData → ⊥) → result ≡ Status.OutOfMemory) }

@@ -1,8 +1,9 @@
-ghost use Rattle.std.specs.Prelude.{IfOk, IfErr};
-ghost use Rattle.surw_cli.specs.Answer as answer;
-ghost use Rattle.surw_cli.specs.CommandAnswer.{answer_of_job};
-ghost use Rattle.surw_cli.specs.Stop.{IsStopOf};
+ghost use Rattle.std.specs.Prelude.{◌≡◌};
+ghost use Rattle.surw_cli.specs.Asked.{ask_by};
+ghost use Rattle.surw_cli.specs.CommandAnswer.{answer_to};
+ghost use Rattle.surw_cli.specs.Reached.{ComesTo, OpensMore};
 
+mod check;
 mod choice;
 mod counts;
 mod draws;
@@ -11,13 +12,18 @@ mod outcome;
 mod plan;
 mod planned;
 mod profile;
+mod replay;
+mod replayed;
 mod run;
+mod saving;
 
-use crate::ask::Job;
+use crate::ask::{Ask, Job};
+use crate::jobs::check::report_of_check;
 use crate::jobs::draws::report_of_draws;
 use crate::jobs::order::report_of_order;
 use crate::jobs::plan::report_of_plan;
 use crate::jobs::profile::report_of_profile;
+use crate::jobs::replay::{report_of_gated_replay, report_of_replay};
 use crate::jobs::run::report_of_run;
 use crate::report::Report;
 use crate::stop::Stop;
@@ -25,34 +31,51 @@ use gate_core::Stage;
 use std::alloc::Global;
 use std::sync::Wait;
 use std::thread::Threads;
+use surw_io::Shelf;
 
-/// The report of a job over the bytes of its file, made on the caller's own thread. A run is made there too, which
-/// gives the same report.
-pub(crate) fn report_of(alloc: Global, job: Job, bytes: &[u8]) -> Result<Report, Stop>
-    ensures report { IfOk result (λ report. answer_of_job job bytes.now (answer.Report report.status report.text.items)) }
-    ensures stopped { IfErr result (IsStopOf (answer_of_job job bytes.now)) }
+/// The report of what is asked for, over the bytes of its first file, made on the caller's own thread. A run is made
+/// there too, which gives the same report.
+pub(crate) fn report_of<F: Shelf>(
+    alloc: Global,
+    ask: &Ask,
+    bytes: &[u8],
+    shelf: &mut F,
+) -> Result<Report, Stop>
+    ensures comes { ComesTo (answer_to (ask_by ask.now) (F.coming shelf.old) bytes.now) (F.in_faults shelf.old) (F.in_faults shelf.new) result }
+    ensures opened { OpensMore ask.now.job (F.opens shelf.old) (F.opens shelf.new) }
+    ensures made { F.made shelf.new ≡ F.made shelf.old }
+    ensures out_faults { F.out_faults shelf.new ≡ F.out_faults shelf.old }
 {
-    match job {
+    match ask.job {
         Job::Order => report_of_order(alloc, bytes),
         Job::Draws => report_of_draws(alloc, bytes),
         Job::Profile => report_of_profile(alloc, bytes),
-        Job::Plan | Job::Run => report_of_plan(alloc, bytes),
+        Job::Check => report_of_check(alloc, bytes),
+        Job::Plan | Job::Run => report_of_plan(alloc, ask.save, bytes),
+        Job::Replay => report_of_replay(alloc, bytes, shelf, ask.saved.unwrap_or("")),
     }
 }
 
 /// The same, where a run is made on threads of its own.
-pub(crate) fn report_on_threads<H: Threads + Wait + Sync, G: Stage>(
+pub(crate) fn report_on_threads<H: Threads + Wait + Sync, F: Shelf, G: Stage>(
     rt: &H,
     alloc: Global,
-    job: Job,
+    ask: &Ask,
     bytes: &[u8],
+    shelf: &mut F,
     stage: &G,
 ) -> Result<Report, Stop>
-    ensures report { IfOk result (λ report. answer_of_job job bytes.now (answer.Report report.status report.text.items)) }
-    ensures stopped { IfErr result (IsStopOf (answer_of_job job bytes.now)) }
+    ensures comes { ComesTo (answer_to (ask_by ask.now) (F.coming shelf.old) bytes.now) (F.in_faults shelf.old) (F.in_faults shelf.new) result }
+    ensures opened { OpensMore ask.now.job (F.opens shelf.old) (F.opens shelf.new) }
+    ensures made { F.made shelf.new ≡ F.made shelf.old }
+    ensures out_faults { F.out_faults shelf.new ≡ F.out_faults shelf.old }
 {
-    match job {
-        Job::Run => report_of_run(rt, alloc, bytes, stage),
-        job => report_of(alloc, job, bytes),
+    match ask.job {
+        Job::Run => report_of_run(rt, alloc, ask.save, bytes, stage),
+        Job::Replay => {
+            let saved = ask.saved.unwrap_or("");
+            report_of_gated_replay(rt, alloc, bytes, shelf, saved, stage)
+        }
+        _ => report_of(alloc, ask, bytes, shelf),
     }
 }

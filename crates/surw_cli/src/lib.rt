@@ -4,6 +4,7 @@
 mod ask;
 mod asked;
 mod command_line;
+mod fetched;
 mod jobs;
 pub mod laws;
 mod report;

@@ -47,6 +47,7 @@ impl Status {
             Fault::Length { .. } | Fault::Large { .. } => Status::Draw,
             Fault::Miscount { .. } | Fault::Offsets { .. } | Fault::Offset { .. } => Status::Draw,
             Fault::TooLong { .. } => Status::TooLong,
+            Fault::Replay(_) | Fault::OtherScenario { .. } => Status::SavedForm,
         }
     }
 

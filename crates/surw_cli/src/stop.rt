@@ -1,9 +1,13 @@
+ghost use Rattle.std.specs.Prelude.{◌≡◌};
+ghost use Rattle.surw_cli.specs.Stop.{stop_of_fetch};
+
 use draw_split::{JoinFault, SplitFault};
 use fault_text::Fault;
 use order_text::FileFault;
 use pure_run::ProfileFault;
+use replay_text::ReplayFault;
 use scenario_toml::ScenarioFault;
-use surw_base::{FILE_LIMIT, OutOfMemory};
+use surw_base::OutOfMemory;
 use surw_io::FetchFault;
 
 /// Why a job has no report.
@@ -15,16 +19,14 @@ pub(crate) enum Stop {
     OutOfMemory,
 }
 
-impl From<FetchFault> for Stop {
-    ghost use Rattle.std.specs.Prelude.{◌≡◌};
-    ghost use Rattle.surw_cli.specs.Stop.{stop_of_fetch};
-
-    ghost from_gives = { λ fault stop. stop ≡ stop_of_fetch fault };
-
-    fn from(fault: FetchFault) -> Self {
+impl Stop {
+    /// Why a file of at most `limit` bytes wasn't fetched.
+    pub(crate) fn of_fetch(fault: FetchFault, limit: u32) -> Stop
+        ensures { result ≡ stop_of_fetch limit fault }
+    {
         match fault {
             FetchFault::Failed => Stop::Refused(Fault::Read),
-            FetchFault::TooLong { .. } => Stop::Refused(Fault::TooLong { limit: FILE_LIMIT }),
+            FetchFault::TooLong { .. } => Stop::Refused(Fault::TooLong { limit }),
             FetchFault::OutOfMemory => Stop::OutOfMemory,
         }
     }
@@ -69,6 +71,20 @@ impl From<ProfileFault> for Stop {
             ProfileFault::StepLimit => Stop::Refused(Fault::ProfileStepLimit),
             ProfileFault::Deadlock { step } => Stop::Refused(Fault::ProfileDeadlock { step }),
             ProfileFault::OutOfMemory => Stop::OutOfMemory,
+        }
+    }
+}
+
+impl From<ReplayFault> for Stop {
+    ghost use Rattle.std.specs.Prelude.{◌≡◌};
+    ghost use Rattle.surw_cli.specs.Stop.{stop_of_replay};
+
+    ghost from_gives = { λ fault stop. stop ≡ stop_of_replay fault };
+
+    fn from(fault: ReplayFault) -> Self {
+        match fault {
+            ReplayFault::OutOfMemory => Stop::OutOfMemory,
+            fault => Stop::Refused(Fault::Replay(fault)),
         }
     }
 }

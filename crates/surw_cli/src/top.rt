@@ -1,7 +1,7 @@
 ghost use Rattle.std.specs.Prelude.{◌≡◌, map, string_bytes};
-ghost use Rattle.surw_io.specs.Cause.{one_more};
 ghost use Rattle.surw_cli.specs.Ask.{Ask, AsksFor, AsksForNothing, all_jobs, plain_jobs};
 ghost use Rattle.surw_cli.specs.Ending.{Call, Ends};
+ghost use Rattle.surw_cli.specs.Reached.{OpensFor};
 
 use crate::ask::Job;
 use crate::asked::asked_of;
@@ -14,13 +14,14 @@ use std::sync::Wait;
 use std::thread::Threads;
 use surw_io::{Shelf, Sink};
 
-/// Does the job that the words after the program's name ask for, one of `order`, `draws`, `plan`, `profile` and
-/// `run`. The report, or a refusal's line, goes to `out`. It waits for the threads of a `run`, whose stage is called
-/// by them; every other job is done as `surw_plain` does it.
+/// Does the job that the words after the program's name ask for: `order`, `draws`, `plan`, `profile`, `check`, `run` or
+/// `replay`. The report, or a refusal's line, goes to `out`, behind the file to which a run is saved. It waits for the
+/// threads of a `run` and a `replay`, by which the stage is called; every other job is done as `surw_plain` does it.
 ///
-/// The status and what was written are the answer to the words and the files, unless a device failed:
-/// `ReadFault` comes only where the shelf's count of faults rose or there is no such file, `WriteFault` only
-/// where the sink's count rose at the report. On `OutOfMemory` nothing was written.
+/// The status, the file that is created and what was written are the answer to the words and the files, unless a device
+/// failed: `ReadFault` comes only where the shelf's count of opens and reads that failed rose or there is no such file,
+/// `WriteFault` only where its count of creates and writes rose, and then nothing was written, or the sink's count rose at
+/// the report. On `OutOfMemory` nothing was written and no file created.
 pub fn surw<H: Threads + Wait + Sync, F: Shelf, O: Sink, G: Stage>(
     rt: &H,
     alloc: Global,
@@ -32,31 +33,48 @@ pub fn surw<H: Threads + Wait + Sync, F: Shelf, O: Sink, G: Stage>(
     ensures ends { let call : Call = record {
       jobs = all_jobs;
       words = map string_bytes words.now;
-      coming = F.coming shelf.old;
-      shelf_before = F.in_faults shelf.old;
-      shelf_now = F.in_faults shelf.new;
-      sink_before = O.faults out.old;
-      sink_now = O.faults out.new;
-      taken_before = O.taken out.old;
-      taken_now = O.taken out.new;
+      files = record { first = F.coming shelf.old; second = F.coming_after shelf.old };
+      before = record {
+        in_faults = F.in_faults shelf.old;
+        out_faults = F.out_faults shelf.old;
+        made = F.made shelf.old;
+        sink_faults = O.faults out.old;
+        taken = O.taken out.old;
+      };
+      now = record {
+        in_faults = F.in_faults shelf.new;
+        out_faults = F.out_faults shelf.new;
+        made = F.made shelf.new;
+        sink_faults = O.faults out.new;
+        taken = O.taken out.new;
+      };
     } in Ends call result }
     ensures unasked { AsksForNothing all_jobs (map string_bytes words.now) → result ≡ Status.Words }
-    ensures opened_once { (ask : Ask) → AsksFor all_jobs (map string_bytes words.now) ask
-        → F.opens shelf.new ≡ one_more (F.opens shelf.old) }
+    ensures opened { (ask : Ask) → AsksFor all_jobs (map string_bytes words.now) ask
+        → OpensFor ask.job (F.opens shelf.old) (F.opens shelf.new) }
     ensures unopened { AsksForNothing all_jobs (map string_bytes words.now) → F.opens shelf.new ≡ F.opens shelf.old }
 {
-    let jobs = [Job::Order, Job::Draws, Job::Plan, Job::Profile, Job::Run];
+    let jobs = [
+        Job::Order,
+        Job::Draws,
+        Job::Plan,
+        Job::Profile,
+        Job::Check,
+        Job::Run,
+        Job::Replay,
+    ];
     match asked_of(alloc, &jobs, words, shelf) {
-        Ok(asked) => tell(
-            report_on_threads(rt, alloc, asked.job, asked.bytes.as_slice(), stage),
-            out,
-        ),
-        Err(stop) => tell(Err(stop), out),
+        Ok(asked) => {
+            let bytes = asked.bytes.as_slice();
+            let report = report_on_threads(rt, alloc, &asked.ask, bytes, shelf, stage);
+            tell(report, shelf, out)
+        }
+        Err(stop) => tell(Err(stop), shelf, out),
     }
 }
 
-/// Does the job that the words after the program's name ask for, one of `order`, `draws`, `plan` and `profile`,
-/// and always returns. All else is as `surw` has it; `run` is no job of it.
+/// Does the job that the words after the program's name ask for, one of `order`, `draws`, `plan`, `profile` and `check`,
+/// and always returns. All else is as `surw` has it; `run` and `replay` are no jobs of it.
 pub fn surw_plain<F: Shelf, O: Sink>(
     alloc: Global,
     words: &[String],
@@ -66,22 +84,33 @@ pub fn surw_plain<F: Shelf, O: Sink>(
     ensures ends { let call : Call = record {
       jobs = plain_jobs;
       words = map string_bytes words.now;
-      coming = F.coming shelf.old;
-      shelf_before = F.in_faults shelf.old;
-      shelf_now = F.in_faults shelf.new;
-      sink_before = O.faults out.old;
-      sink_now = O.faults out.new;
-      taken_before = O.taken out.old;
-      taken_now = O.taken out.new;
+      files = record { first = F.coming shelf.old; second = F.coming_after shelf.old };
+      before = record {
+        in_faults = F.in_faults shelf.old;
+        out_faults = F.out_faults shelf.old;
+        made = F.made shelf.old;
+        sink_faults = O.faults out.old;
+        taken = O.taken out.old;
+      };
+      now = record {
+        in_faults = F.in_faults shelf.new;
+        out_faults = F.out_faults shelf.new;
+        made = F.made shelf.new;
+        sink_faults = O.faults out.new;
+        taken = O.taken out.new;
+      };
     } in Ends call result }
     ensures unasked { AsksForNothing plain_jobs (map string_bytes words.now) → result ≡ Status.Words }
-    ensures opened_once { (ask : Ask) → AsksFor plain_jobs (map string_bytes words.now) ask
-        → F.opens shelf.new ≡ one_more (F.opens shelf.old) }
+    ensures opened { (ask : Ask) → AsksFor plain_jobs (map string_bytes words.now) ask
+        → OpensFor ask.job (F.opens shelf.old) (F.opens shelf.new) }
     ensures unopened { AsksForNothing plain_jobs (map string_bytes words.now) → F.opens shelf.new ≡ F.opens shelf.old }
 {
-    let jobs = [Job::Order, Job::Draws, Job::Plan, Job::Profile];
+    let jobs = [Job::Order, Job::Draws, Job::Plan, Job::Profile, Job::Check];
     match asked_of(alloc, &jobs, words, shelf) {
-        Ok(asked) => tell(report_of(alloc, asked.job, asked.bytes.as_slice()), out),
-        Err(stop) => tell(Err(stop), out),
+        Ok(asked) => {
+            let report = report_of(alloc, &asked.ask, asked.bytes.as_slice(), shelf);
+            tell(report, shelf, out)
+        }
+        Err(stop) => tell(Err(stop), shelf, out),
     }
 }

@@ -3,7 +3,7 @@ ghost use Rattle.scenario_toml.specs.State.{HasCounts};
 ghost use Rattle.surw_cli.specs.Counts.{rule_by, counted_by, AreCounts, IsUncounted};
 
 use crate::jobs::choice::NO_CHOICE;
-use crate::jobs::profile::{profile_of, zeros};
+use crate::jobs::profile::profile_of;
 use draw_split::Weights;
 use pure_run::{ProfileCounts, ProfileFault};
 use scenario_toml::{CountsRule, Scenario, Strategy};
@@ -31,7 +31,7 @@ fn rule_of(scenario: &Scenario) -> CountsRule
 {
     match scenario.strategy(&NO_CHOICE) {
         Strategy::Urw | Strategy::Surw | Strategy::Pct => scenario.counts(),
-        Strategy::Plain => CountsRule::Given(zeros(scenario)),
+        Strategy::Plain => CountsRule::Given(scenario.no_counts()),
     }
 }
 

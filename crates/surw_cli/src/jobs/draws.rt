@@ -1,6 +1,6 @@
 ghost use Rattle.std.specs.Prelude.{IfOk, IfErr};
-ghost use Rattle.surw_cli.specs.Answer as answer;
 ghost use Rattle.surw_cli.specs.DrawsAnswer.{draws_answer};
+ghost use Rattle.surw_cli.specs.Reached.{report_answer};
 ghost use Rattle.surw_cli.specs.Stop.{IsStopOf};
 
 use crate::report::Report;
@@ -12,7 +12,7 @@ use std::alloc::Global;
 
 /// The report of the job `draws` over the bytes of its file: the draws that name the order and the offsets.
 pub(crate) fn report_of_draws(alloc: Global, bytes: &[u8]) -> Result<Report, Stop>
-    ensures report { IfOk result (λ report. draws_answer bytes.now (answer.Report report.status report.text.items)) }
+    ensures report { IfOk result (λ report. draws_answer bytes.now (report_answer report)) }
     ensures stopped { IfErr result (IsStopOf (draws_answer bytes.now)) }
 {
     let file = read_draws_file(alloc, bytes)?;
@@ -21,5 +21,6 @@ pub(crate) fn report_of_draws(alloc: Global, bytes: &[u8]) -> Result<Report, Sto
     Ok(Report {
         status: Status::Done,
         text,
+        saved: None,
     })
 }

@@ -1,25 +1,30 @@
 ghost use Rattle.std.specs.Prelude.{◌≡◌, IfOk, IfErr};
-ghost use Rattle.report_text.specs.Report.{report_text};
 ghost use Rattle.surw_cli.specs.Planned.{status_of_run};
+ghost use Rattle.surw_cli.specs.Reached.{TellsRun};
 ghost use Rattle.surw_cli.specs.declared.stop.Stop.TheVariants.{OutOfMemory};
 
-use crate::report::Report;
+use crate::report::{Report, SavedFile};
 use crate::status::Status;
 use crate::stop::Stop;
 use pure_run::{Run, Verdict};
 use report_text::report;
 use std::alloc::Global;
 
-/// The report of a run, and the status that it ends with. It stops only where memory is refused.
-pub(crate) fn report_of_outcome(alloc: Global, run: &Run) -> Result<Report, Stop>
-    ensures printed { IfOk result (λ report. report.text.items ≡ report_text run.now) }
-    ensures ends { IfOk result (λ report. report.status ≡ status_of_run run.now) }
+/// The report of a run, with the status that it ends with and the file that is saved. It stops only where memory is
+/// refused.
+pub(crate) fn report_of_outcome(
+    alloc: Global,
+    run: &Run,
+    saved: Option<SavedFile>,
+) -> Result<Report, Stop>
+    ensures told { IfOk result (TellsRun run.now saved) }
     ensures stopped { IfErr result (λ stop. stop ≡ OutOfMemory) }
 {
     let text = report(alloc, run)?;
     Ok(Report {
         status: status_of(run),
         text,
+        saved,
     })
 }
 

@@ -1,8 +1,8 @@
 ghost use Rattle.std.specs.Prelude.{IfOk, IfErr};
 ghost use Rattle.run_rules.specs.Plan.{IsValidPlan};
-ghost use Rattle.surw_cli.specs.PlanAnswer.{plan_answer};
+ghost use Rattle.surw_cli.specs.PlanAnswer.{IsUnplanned};
 ghost use Rattle.surw_cli.specs.Planned.{IsPlanned};
-ghost use Rattle.surw_cli.specs.Stop.{IsStopOf};
+ghost use Rattle.surw_cli.specs.Stop.{IsStopBy};
 
 use crate::jobs::choice::NO_CHOICE;
 use crate::jobs::counts::counts_of;
@@ -20,7 +20,7 @@ pub(crate) fn plan_of(
 ) -> Result<Plan<AnyRoutine, AnyDraws, AnyDraws>, Stop>
     ensures planned { IfOk result (IsPlanned bytes.now) }
     ensures valid { IfOk result IsValidPlan }
-    ensures stopped { IfErr result (IsStopOf (plan_answer bytes.now)) }
+    ensures stopped { IfErr result (IsStopBy (IsUnplanned bytes.now)) }
 {
     let scenario = read_scenario(alloc, bytes)?;
     let counts = counts_of(alloc, &scenario)?;

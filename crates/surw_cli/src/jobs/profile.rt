@@ -1,24 +1,21 @@
 ghost use Rattle.std.specs.Prelude.{◌≡◌, IfOk, IfErr};
-ghost use Rattle.surw_cli.specs.Answer as answer;
 ghost use Rattle.surw_cli.specs.ProfileAnswer.{profile_answer};
-ghost use Rattle.surw_cli.specs.Profiled as profiled;
 ghost use Rattle.surw_cli.specs.Profiled.{IsProfileOf, IsUnprofiled};
+ghost use Rattle.surw_cli.specs.Reached.{report_answer};
 ghost use Rattle.surw_cli.specs.Stop.{IsStopOf};
 
 use crate::jobs::choice::{NO_CHOICE, PLAIN_CHOICE};
 use crate::report::Report;
 use crate::status::Status;
 use crate::stop::Stop;
-use draw_split::Weights;
 use pure_run::{ProfileCounts, ProfileFault, profile};
 use report_text::profile_text;
 use scenario_toml::{Scenario, read_scenario};
 use std::alloc::Global;
-use surw_base::THREADS;
 
 /// The report of the job `profile` over the bytes of its file: the profile of its scenario.
 pub(crate) fn report_of_profile(alloc: Global, bytes: &[u8]) -> Result<Report, Stop>
-    ensures report { IfOk result (λ report. profile_answer bytes.now (answer.Report report.status report.text.items)) }
+    ensures report { IfOk result (λ report. profile_answer bytes.now (report_answer report)) }
     ensures stopped { IfErr result (IsStopOf (profile_answer bytes.now)) }
 {
     let scenario = read_scenario(alloc, bytes)?;
@@ -27,6 +24,7 @@ pub(crate) fn report_of_profile(alloc: Global, bytes: &[u8]) -> Result<Report, S
     Ok(Report {
         status: Status::Done,
         text,
+        saved: None,
     })
 }
 
@@ -36,13 +34,6 @@ pub(crate) fn profile_of(alloc: Global, scenario: &Scenario) -> Result<ProfileCo
     ensures found { IfOk result (λ found. IsProfileOf scenario.now found.selected found.all) }
     ensures stopped { IfErr result (IsUnprofiled scenario.now) }
 {
-    let plan = scenario.plan(alloc, &PLAIN_CHOICE, &zeros(scenario))?;
+    let plan = scenario.plan(alloc, &PLAIN_CHOICE, &scenario.no_counts())?;
     profile(alloc, &plan, scenario.seed(&NO_CHOICE))
-}
-
-/// A count of 0 for each thread.
-pub(crate) fn zeros(scenario: &Scenario) -> Weights
-    ensures { result ≡ profiled.zeros scenario.now }
-{
-    Weights::new(&[0; THREADS][..scenario.threads()])
 }

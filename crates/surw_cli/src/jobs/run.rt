@@ -1,10 +1,11 @@
-ghost use Rattle.std.specs.Prelude.{IfOk, IfErr};
-ghost use Rattle.surw_cli.specs.Answer as answer;
+ghost use Rattle.std.specs.Prelude.{IfOk, IfErr, option_map};
 ghost use Rattle.surw_cli.specs.PlanAnswer.{plan_answer};
+ghost use Rattle.surw_cli.specs.Reached.{report_answer};
 ghost use Rattle.surw_cli.specs.Stop.{IsStopOf};
 
 use crate::jobs::outcome::report_of_outcome;
 use crate::jobs::planned::plan_of;
+use crate::jobs::saving::saved_file;
 use crate::report::Report;
 use crate::stop::Stop;
 use gate_core::{Stage, run_gated};
@@ -12,17 +13,20 @@ use std::alloc::Global;
 use std::sync::Wait;
 use std::thread::Threads;
 
-/// The report of the job `run` over the bytes of its file: the run of its scenario, made on threads of its own.
+/// The report of the job `run` over the bytes of its file: the run of its scenario, made on threads of its own,
+/// and its file where a name is given to save it to.
 pub(crate) fn report_of_run<H: Threads + Wait + Sync, G: Stage>(
     rt: &H,
     alloc: Global,
+    save: Option<&str>,
     bytes: &[u8],
     stage: &G,
 ) -> Result<Report, Stop>
-    ensures report { IfOk result (λ report. plan_answer bytes.now (answer.Report report.status report.text.items)) }
-    ensures stopped { IfErr result (IsStopOf (plan_answer bytes.now)) }
+    ensures report { IfOk result (λ report. plan_answer (option_map (λ name. name.now) save) bytes.now (report_answer report)) }
+    ensures stopped { IfErr result (IsStopOf (plan_answer (option_map (λ name. name.now) save) bytes.now)) }
 {
     let plan = plan_of(alloc, bytes)?;
     let run = run_gated(rt, alloc, &plan, stage)?;
-    report_of_outcome(alloc, &run)
+    let saved = saved_file(alloc, save, bytes, &run)?;
+    report_of_outcome(alloc, &run, saved)
 }

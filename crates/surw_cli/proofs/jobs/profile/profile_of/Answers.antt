@@ -12,7 +12,7 @@ returns-clause-found c =
     let scenario = c.args.scenario.now in
     let plan = c.in_ok-plan.plan in
     let planned : IsProfilePlan scenario plan =
-    subst (λ (counts : List ℕ). IsPlanOf scenario plain_choice counts plan) c.zeros.ensures c.in_ok-plan.ensures.plan in
+    subst (λ (counts : List ℕ). IsPlanOf scenario plain_choice counts plan) c.no_counts.ensures c.in_ok-plan.ensures.plan in
     IfOk-weaker c.profile.result _ _
     (λ found made. record {
       plan = plan;
@@ -25,7 +25,7 @@ returns-clause-stopped c =
     let scenario = c.args.scenario.now in
     let plan = c.in_ok-plan.plan in
     let planned : IsProfilePlan scenario plan =
-    subst (λ (counts : List ℕ). IsPlanOf scenario plain_choice counts plan) c.zeros.ensures c.in_ok-plan.ensures.plan in
+    subst (λ (counts : List ℕ). IsPlanOf scenario plain_choice counts plan) c.no_counts.ensures c.in_ok-plan.ensures.plan in
     IfErr-weaker c.profile.result _ _
     (λ fault stopped. unprofiled scenario plan fault planned
     (subst (λ (seed : ℕ). IsProfileStop (script plan) seed fault) c.seed.ensures stopped)) c.profile.ensures.stopped
