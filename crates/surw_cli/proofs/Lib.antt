@@ -12,6 +12,8 @@ pub mod OneScenario
 pub mod OneScript
 pub mod Outcomes
 pub mod ProfileStops
+pub mod ReplayStops
 pub mod Reports
 pub mod Safe
 pub mod Stops
+pub mod Tails

@@ -99,7 +99,7 @@ tail-one (Some name) save (Some twin) other reads same =
     (ap Some (ap (λ (ws : List (List ℕ)). get_or ws 0 []) (sym same)), save-one save other (ap (λ (ws : List (List ℕ)). drop 1 ws) same))
 
 -- the words ask for one thing
-ask-one : (jobs : List Job) (words : List (List ℕ)) (ask other : Ask) → AsksFor jobs words ask → AsksFor jobs words other → other ≡ ask
+pub ask-one : (jobs : List Job) (words : List (List ℕ)) (ask other : Ask) → AsksFor jobs words ask → AsksFor jobs words other → other ≡ ask
 ask-one jobs words ask other is twin =
     let spelled = sym is.spelled ∙ twin.spelled in
     let job : other.job ≡ ask.job = word-one ask.job other.job (ap (λ (ws : List (List ℕ)). get_or ws 0 []) spelled) in

@@ -8,9 +8,10 @@ use Rattle.pure_run.specs.declared.profiling.ProfileFault.TheVariants.{StepLimit
 use Rattle.routine_kit.specs.declared.any_routine.AnyRoutine.{AnyRoutine}
 use Rattle.run_rules.specs.Setup.{Script}
 use Rattle.run_rules.specs.declared.plan.Plan.{Plan}
+use Rattle.scenario_toml.specs.FollowPlan.{no_counts}
 use Rattle.scenario_toml.specs.State.{ScenarioState}
 use Rattle.seed_draws.specs.declared.any_draws.AnyDraws.{AnyDraws}
-use Rattle.surw_cli.specs.Profiled.{IsProfileOf, IsProfilePlan, IsUnprofiled, StopsProfile, plain_choice, zeros}
+use Rattle.surw_cli.specs.Profiled.{IsProfileOf, IsProfilePlan, IsUnprofiled, StopsProfile, plain_choice}
 use Rattle.surw_cli.specs.Script.{script}
 use Rattle.surw_cli.specs.Stop.{stop_of_profile}
 use Rattle.surw_cli.specs.declared.stop.Stop.TheVariants.{Refused}
@@ -18,7 +19,7 @@ use Rattle.surw_cli.proofs.OneScript.{script-one}
 
 module _ (scenario : ScenarioState) where
   same-script : (plan twin : Plan AnyRoutine AnyDraws AnyDraws) → IsProfilePlan scenario plan → IsProfilePlan scenario twin → script twin ≡ script plan
-  same-script plan twin is are = script-one scenario plain_choice (zeros scenario) plan twin is are
+  same-script plan twin is are = script-one scenario plain_choice (no_counts scenario) plan twin is are
 
   -- its counts are one
   pub profile-one : (selected all others totals : List ℕ) → IsProfileOf scenario selected all → IsProfileOf scenario others totals

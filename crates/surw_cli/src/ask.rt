@@ -2,6 +2,7 @@ ghost use Rattle.std.specs.Prelude.{◌≡◌, ◌≤◌, List, map, option_map,
 ghost use Rattle.surw_base.specs.declared.limits.TheConstants.{SAVED_LIMIT};
 ghost use Rattle.surw_cli.specs.Ask.{AsksFor, AsksForNothing, HasNoTail, IsPlain, IsTail, can_save, file_limit, job_word, reads_saved};
 ghost use Rattle.surw_cli.specs.Asked.{ask_by};
+ghost use Rattle.surw_cli.specs.CommandAnswer.{saved_name};
 ghost use Rattle.surw_cli.specs.declared.ask.Job.{Job};
 
 use surw_base::{FILE_LIMIT, SAVED_LIMIT};
@@ -78,6 +79,18 @@ pub(crate) struct Ask<'a> {
     pub saved: Option<&'a str>,
     /// The name of the file to which a run is saved.
     pub save: Option<&'a str>,
+}
+
+impl<'a> Ask<'a> {
+    /// The name of the saved file, empty where there is none.
+    pub(crate) fn saved_name(&self) -> &'a str
+        ensures { result.now ≡ saved_name (ask_by self.now).saved }
+    {
+        match self.saved {
+            Some(name) => name,
+            None => "",
+        }
+    }
 }
 
 /// What the words `JOB NAME`, `replay NAME SAVED` or `JOB NAME --save PATH` ask for, where the job is one of `jobs`.

@@ -1,6 +1,7 @@
 ghost use Rattle.std.specs.Prelude.{◌≡◌, ℕ, List, map, string_bytes, IfOk, IfErr, OnOk};
 ghost use Rattle.surw_io.specs.Cause.{one_more};
-ghost use Rattle.surw_cli.specs.Ask.{Ask, AsksFor, AsksForNothing};
+ghost use Rattle.surw_cli.specs.Ask as asks;
+ghost use Rattle.surw_cli.specs.Ask.{AsksFor, AsksForNothing};
 ghost use Rattle.surw_cli.specs.Asked.{ask_by, IsAsked};
 ghost use Rattle.surw_cli.specs.CommandAnswer.{IsAnswer};
 ghost use Rattle.surw_cli.specs.Stop.{IsStopAt};
@@ -38,7 +39,7 @@ pub(crate) fn asked_of<'a, F: Shelf>(
         (F.in_faults shelf.old) (F.in_faults shelf.new)) }
     ensures unasked { AsksForNothing jobs.now (map string_bytes words.now)
         → OnOk result ⊥ × IfErr result (λ stop. stop ≡ Refused Words) }
-    ensures opened_once { (ask : Ask) → AsksFor jobs.now (map string_bytes words.now) ask
+    ensures opened_once { (ask : asks.Ask) → AsksFor jobs.now (map string_bytes words.now) ask
         → F.opens shelf.new ≡ one_more (F.opens shelf.old) }
     ensures unopened { AsksForNothing jobs.now (map string_bytes words.now) → F.opens shelf.new ≡ F.opens shelf.old }
     ensures made { F.made shelf.new ≡ F.made shelf.old }

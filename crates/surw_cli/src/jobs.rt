@@ -52,7 +52,7 @@ pub(crate) fn report_of<F: Shelf>(
         Job::Profile => report_of_profile(alloc, bytes),
         Job::Check => report_of_check(alloc, bytes),
         Job::Plan | Job::Run => report_of_plan(alloc, ask.save, bytes),
-        Job::Replay => report_of_replay(alloc, bytes, shelf, ask.saved.unwrap_or("")),
+        Job::Replay => report_of_replay(alloc, bytes, shelf, ask.saved_name()),
     }
 }
 
@@ -72,10 +72,7 @@ pub(crate) fn report_on_threads<H: Threads + Wait + Sync, F: Shelf, G: Stage>(
 {
     match ask.job {
         Job::Run => report_of_run(rt, alloc, ask.save, bytes, stage),
-        Job::Replay => {
-            let saved = ask.saved.unwrap_or("");
-            report_of_gated_replay(rt, alloc, bytes, shelf, saved, stage)
-        }
+        Job::Replay => report_of_gated_replay(rt, alloc, bytes, shelf, ask.saved_name(), stage),
         _ => report_of(alloc, ask, bytes, shelf),
     }
 }

@@ -18,8 +18,8 @@ pub(crate) fn report_of_plan(
     save: Option<&str>,
     bytes: &[u8],
 ) -> Result<Report, Stop>
-    ensures report { IfOk result (λ report. plan_answer (option_map (λ name. name.now) save) bytes.now (report_answer report)) }
-    ensures stopped { IfErr result (IsStopOf (plan_answer (option_map (λ name. name.now) save) bytes.now)) }
+    ensures report { IfOk result (λ report. plan_answer (option_map (λ name. name.now) save.entry) bytes.now (report_answer report)) }
+    ensures stopped { IfErr result (IsStopOf (plan_answer (option_map (λ name. name.now) save.entry) bytes.now)) }
 {
     let plan = plan_of(alloc, bytes)?;
     let run = run_inline(alloc, &plan)?;

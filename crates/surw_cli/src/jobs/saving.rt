@@ -21,7 +21,7 @@ pub(crate) fn saved_file(
     bytes: &[u8],
     run: &Run,
 ) -> Result<Option<SavedFile>, OutOfMemory>
-    ensures { IfOk result (λ saved. option_map to_create saved ≡ saved_file (option_map (λ name. name.now) save) bytes.now run.now.journal) }
+    ensures { IfOk result (λ saved. option_map to_create saved ≡ saved_file (option_map (λ name. name.now) save.entry) bytes.now run.now.journal) }
 {
     let Some(name) = save else {
         return Ok(None);
