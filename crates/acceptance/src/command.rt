@@ -11,6 +11,15 @@ pub fn words_of(alloc: Global, job: &str, name: &str) -> Result<Vec<String>, All
     Ok(words)
 }
 
+// These words.
+pub fn texts_of(alloc: Global, texts: &[&str]) -> Result<Vec<String>, AllocError> {
+    let mut words = Vec::new(alloc);
+    for text in texts {
+        words.push(String::from_str(alloc, text)?)?;
+    }
+    Ok(words)
+}
+
 // A shelf with one file, which is read in small pieces.
 pub fn shelf_of(alloc: Global, name: &str, bytes: &[u8], fails: &[u32]) -> Result<MemShelf, Fail> {
     let mut files = Vec::new(alloc);

@@ -11,4 +11,6 @@ mod draw_lists;
 #[cfg(test)]
 mod lost_update;
 #[cfg(test)]
+mod saved;
+#[cfg(test)]
 mod threads;
