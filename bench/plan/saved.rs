@@ -95,7 +95,7 @@ fn verb(word: &[u8]) -> Option<Verb> {
 fn entry(text: &[u8]) -> Option<(Asked, &[u8])> {
     let (thread, rest) = number(text)?;
     let rest = rest.strip_prefix(b" ").filter(|_| thread < THREADS as u64)?;
-    let end = rest.iter().position(|byte| !matches!(byte, b'a'..=b'z' | b'_'))?;
+    let end = rest.iter().position(|byte| *byte <= b' ')?;
     let verb = verb(&rest[..end])?;
     let mut rest = &rest[end..];
     let mut args = [0; 3];
@@ -132,7 +132,7 @@ fn line(text: &[u8]) -> Result<(&[u8], &[u8]), Fault> {
 pub fn read_saved(text: &[u8]) -> Result<Saved, Fault> {
     let (first, mut rest) = line(text.strip_prefix(HEADER).ok_or(Fault::Header)?)?;
     let name = first.strip_prefix(b"scenario ").and_then(name).ok_or(Fault::Line(2))?;
-    let mut entries = Vec::new();
+    let mut entries = Vec::with_capacity(rest.len() / 8);
     while let Some((asked, after)) = entry(rest) {
         if entries.len() as u64 == STEPS {
             return Err(Fault::TooMany(entries.len() + 3));

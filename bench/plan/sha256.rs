@@ -13,12 +13,13 @@ const ROUNDS: [u32; 64] = [
 // One round, after which the names of the eight words stand one further on.
 macro_rules! round {
     ($a:ident $b:ident $c:ident $d:ident $e:ident $f:ident $g:ident $h:ident, $addend:expr) => {
-        let mixed = $e.rotate_right(6) ^ $e.rotate_right(11) ^ $e.rotate_right(25);
+        // The rotations by 6, 11 and 25, and by 2, 13 and 22, each on what the one before has left.
+        let mixed = ($e ^ ($e ^ $e.rotate_right(14)).rotate_right(5)).rotate_right(6);
         let chosen = $g ^ $e & ($f ^ $g);
-        $h = $h.wrapping_add(mixed).wrapping_add(chosen).wrapping_add($addend);
+        $h = $h.wrapping_add($addend).wrapping_add(mixed).wrapping_add(chosen);
         $d = $d.wrapping_add($h);
-        let mixed = $a.rotate_right(2) ^ $a.rotate_right(13) ^ $a.rotate_right(22);
-        $h = $h.wrapping_add(mixed).wrapping_add($a & $b | $c & ($a | $b));
+        let mixed = ($a ^ ($a ^ $a.rotate_right(9)).rotate_right(11)).rotate_right(2);
+        $h = $h.wrapping_add(mixed).wrapping_add($b ^ ($a ^ $b) & ($b ^ $c));
     };
 }
 
