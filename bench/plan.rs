@@ -1,6 +1,6 @@
-// The job `plan` as an ordinary, fast Rust program, to compare with. It takes scenarios of threads of all kinds but
-// `adder`, with counts that are given or by profile, and with tapes or a seed. A file that is past this ends with
-// status 3 and no fault line.
+// The jobs `plan`, `check` and `replay` as an ordinary, fast Rust program, to compare with; a replay is made on one
+// thread. It takes scenarios of threads of all kinds but `adder`, with counts that are given or by profile, and with
+// tapes or a seed. A file that is past this ends with status 3 and no fault line.
 #[path = "plan/cache.rs"]
 mod cache;
 #[path = "plan/draws.rs"]
@@ -15,8 +15,12 @@ mod report;
 mod routines;
 #[path = "plan/run.rs"]
 mod run;
+#[path = "plan/saved.rs"]
+mod saved;
 #[path = "plan/seeded.rs"]
 mod seeded;
+#[path = "plan/sha256.rs"]
+mod sha256;
 
 use cache::Cache;
 use draws::{Draws, Streams, Tapes};
@@ -25,12 +29,15 @@ use reading::read;
 use report::report;
 use routines::Routine;
 use run::{profile, run};
+use saved::{hex, read_saved, write, Asked};
+use sha256::sha256;
 use std::io::Write;
 use std::process::exit;
 
 const THREADS: usize = 16;
 const STEPS: u64 = 65_536;
 const FILE_LIMIT: usize = 1_048_576;
+const SAVED_LIMIT: usize = 8_388_608;
 const MAX: u64 = u64::MAX;
 
 // The greatest number of a file.
@@ -41,6 +48,8 @@ const URW: u8 = 0;
 const SURW: u8 = 1;
 const PCT: u8 = 2;
 const PLAIN: u8 = 3;
+// A replay.
+const FOLLOW: u8 = 4;
 
 #[derive(Clone, Copy, PartialEq)]
 enum Class {
@@ -108,7 +117,7 @@ const VERBS: [(Verb, &str, usize, Class); 19] = [
     (Verb::Check, "check", 2, Class::Check),
 ];
 
-#[derive(Clone, Copy)]
+#[derive(Clone, Copy, PartialEq)]
 struct Event {
     verb: Verb,
     args: [u64; 3],
@@ -176,6 +185,8 @@ enum Verdict {
     Short { place: usize },
     Large { place: usize, kept: u64, below: u64 },
     StepLimit,
+    Asked { asked: Asked, announced: Option<Event> },
+    Left { thread: usize },
 }
 
 struct Run {
@@ -193,11 +204,44 @@ struct Run {
 
 fn main() {
     let words: Vec<String> = std::env::args().collect();
-    let text = std::fs::read_to_string(&words[2]).unwrap();
-    if words[1] != "plan" || text.len() > FILE_LIMIT {
-        exit(2);
+    let words: Vec<&str> = words[1..].iter().map(String::as_str).collect();
+    match words[..] {
+        ["plan", file] => plan(file, None),
+        ["plan", file, "--save", path] => plan(file, Some(path)),
+        ["check", saved] => check(saved),
+        ["replay", file, saved] => replay(file, saved),
+        _ => exit(2),
     }
-    let Some(scenario) = read(&text) else { exit(3) };
+}
+
+fn print(text: &[u8]) {
+    std::io::stdout().write_all(text).unwrap();
+}
+
+// The bytes of a file, or the end with status 12.
+fn bytes_of(file: &str, limit: usize) -> Vec<u8> {
+    let bytes = std::fs::read(file).unwrap();
+    if bytes.len() > limit {
+        println!("fault too_long {limit}");
+        exit(12);
+    }
+    bytes
+}
+
+fn scenario_of(bytes: &[u8]) -> Scenario {
+    std::str::from_utf8(bytes).ok().and_then(read).unwrap_or_else(|| exit(3))
+}
+
+fn saved_of(file: &str) -> saved::Saved {
+    read_saved(&bytes_of(file, SAVED_LIMIT)).unwrap_or_else(|fault| {
+        print(fault.text().as_bytes());
+        exit(6)
+    })
+}
+
+fn plan(file: &str, save: Option<&str>) {
+    let bytes = bytes_of(file, FILE_LIMIT);
+    let scenario = scenario_of(&bytes);
     let counts = match &scenario.counts {
         _ if scenario.strategy == PLAIN => vec![0; scenario.routines.len()],
         Some(counts) => counts.clone(),
@@ -210,11 +254,39 @@ fn main() {
         Some((selected, other)) => run_of(&scenario, &counts, &mut Tapes::new(selected, other)),
         None => run_of(&scenario, &counts, &mut Streams::of_run(scenario.seed, scenario.strategy)),
     };
-    std::io::stdout().write_all(&report(&run, &scenario.monitors)).unwrap();
+    if let Some(path) = save {
+        std::fs::write(path, write(&sha256(&bytes), &run.journal)).unwrap();
+    }
+    tell(&run, &scenario);
+}
+
+fn check(file: &str) {
+    let saved = saved_of(file);
+    println!("replay 1\nscenario {}\nentries {}", hex(&saved.name), saved.entries.len());
+}
+
+// The replay of a saved run, on one thread.
+fn replay(file: &str, saved: &str) {
+    let bytes = bytes_of(file, FILE_LIMIT);
+    let scenario = scenario_of(&bytes);
+    let saved = saved_of(saved);
+    let needed = sha256(&bytes);
+    if saved.name != needed {
+        println!("fault replay other_scenario {} {}", hex(&saved.name), hex(&needed));
+        exit(6);
+    }
+    let counts = vec![0; scenario.routines.len()];
+    tell(&run::<FOLLOW>(&scenario, &counts, &saved.entries, &mut Tapes::new(&[], &[])), &scenario);
+}
+
+// Prints the report and ends.
+fn tell(run: &Run, scenario: &Scenario) {
+    print(&report(run, &scenario.monitors));
     exit(match run.verdict {
         Verdict::Ended => i32::from(run.failed.iter().any(Option::is_some)),
         Verdict::Deadlock => 1,
         Verdict::WrongCount { .. } => 4,
+        Verdict::Asked { .. } | Verdict::Left { .. } => 5,
         Verdict::StepLimit => 7,
         Verdict::Short { .. } | Verdict::Large { .. } => 11,
     });
@@ -223,9 +295,9 @@ fn main() {
 // The run under the strategy of the scenario.
 fn run_of(scenario: &Scenario, counts: &[u64], draws: &mut impl Draws) -> Run {
     match scenario.strategy {
-        URW => run::<URW>(scenario, counts, draws),
-        SURW => run::<SURW>(scenario, counts, draws),
-        PCT => run::<PCT>(scenario, counts, draws),
-        _ => run::<PLAIN>(scenario, counts, draws),
+        URW => run::<URW>(scenario, counts, &[], draws),
+        SURW => run::<SURW>(scenario, counts, &[], draws),
+        PCT => run::<PCT>(scenario, counts, &[], draws),
+        _ => run::<PLAIN>(scenario, counts, &[], draws),
     }
 }

@@ -2,7 +2,7 @@
 use super::cache::Frame;
 use super::*;
 
-fn push_number(out: &mut Vec<u8>, mut n: u64) {
+pub fn push_number(out: &mut Vec<u8>, mut n: u64) {
     if n < 10 {
         out.push(b'0' + n as u8);
         return;
@@ -55,7 +55,7 @@ fn push_frames<'a>(out: &mut Vec<u8>, word: &str, frames: impl Iterator<Item = (
     out.push(b'\n');
 }
 
-fn push_event(out: &mut Vec<u8>, event: &Event) {
+pub fn push_event(out: &mut Vec<u8>, event: &Event) {
     let (_, text, numbers, _) = VERBS[event.verb as usize];
     out.extend_from_slice(text.as_bytes());
     for number in &event.args[..numbers] {
@@ -85,6 +85,19 @@ pub fn report(run: &Run, monitors: &[Monitor]) -> Vec<u8> {
             push_list(&mut out, " large", [place as u64, kept, below]);
         }
         Verdict::StepLimit => push_list(&mut out, "verdict step_limit", [step]),
+        Verdict::Asked { asked, announced } => {
+            push_list(&mut out, "verdict asked", [step, u64::from(asked.thread)]);
+            out.pop();
+            out.push(b' ');
+            push_event(&mut out, &asked.event);
+            out.extend_from_slice(b"; announced ");
+            match announced {
+                Some(event) => push_event(&mut out, &event),
+                None => out.extend_from_slice(b"nothing"),
+            }
+            out.push(b'\n');
+        }
+        Verdict::Left { thread } => push_list(&mut out, "verdict left", [step, thread as u64]),
     }
     let selected = run.journal.iter().filter(|entry| entry.chosen).count();
     let switches = run.journal.windows(2).filter(|pair| pair[0].thread != pair[1].thread).count();

@@ -1,4 +1,4 @@
-// Makes the run of a scenario, a step at a time.
+// Makes the run of a scenario, a step at a time, or follows the entries of a saved one.
 use super::*;
 
 fn has(select: &[Pickable], event: &Event) -> bool {
@@ -99,7 +99,8 @@ fn is_wrong<const STRATEGY: u8>(word: &Option<Event>, chosen: bool, left: u64) -
 // events else. Or why that run stops. That the monitors look on changes nothing.
 #[inline(never)]
 pub fn profile(scenario: &Scenario) -> Result<Vec<u64>, String> {
-    let run = run::<PLAIN>(scenario, &vec![0; scenario.routines.len()], &mut Streams::of_profile(scenario.seed));
+    let none = vec![0; scenario.routines.len()];
+    let run = run::<PLAIN>(scenario, &none, &[], &mut Streams::of_profile(scenario.seed));
     match run.verdict {
         Verdict::Ended => {
             let mut counts = vec![0; scenario.routines.len()];
@@ -114,7 +115,12 @@ pub fn profile(scenario: &Scenario) -> Result<Vec<u64>, String> {
 }
 
 #[inline(never)]
-pub fn run<const STRATEGY: u8>(scenario: &Scenario, counts: &[u64], draws: &mut impl Draws) -> Run {
+pub fn run<const STRATEGY: u8>(
+    scenario: &Scenario,
+    counts: &[u64],
+    followed: &[Asked],
+    draws: &mut impl Draws,
+) -> Run {
     let Scenario { max_steps, depth, select, monitors, cells, locks, frames, pages, slots, .. } = scenario;
     let mut routines = scenario.routines.clone();
     let threads = routines.len();
@@ -165,6 +171,14 @@ pub fn run<const STRATEGY: u8>(scenario: &Scenario, counts: &[u64], draws: &mut 
     }
     let verdict = loop {
         let step = journal.len();
+        if STRATEGY == FOLLOW {
+            if let Some(asked) = followed.get(step) {
+                let word = announced.get(usize::from(asked.thread)).copied().flatten();
+                if word != Some(asked.event) || able >> asked.thread & 1 == 0 {
+                    break Verdict::Asked { asked: *asked, announced: word };
+                }
+            }
+        }
         if let Some(thread) = wrong {
             break Verdict::WrongCount { thread, counted: counts[thread], seen: counts[thread] - left[thread] };
         }
@@ -176,6 +190,9 @@ pub fn run<const STRATEGY: u8>(scenario: &Scenario, counts: &[u64], draws: &mut 
         }
         if able == 0 {
             break Verdict::Deadlock;
+        }
+        if STRATEGY == FOLLOW && step >= followed.len() {
+            break Verdict::Left { thread: announcing.trailing_zeros() as usize };
         }
         let mut forced = false;
         let thread = match STRATEGY {
@@ -203,6 +220,7 @@ pub fn run<const STRATEGY: u8>(scenario: &Scenario, counts: &[u64], draws: &mut 
                 }
                 ranks.as_mut().unwrap().grant(step as u64, able)
             }
+            FOLLOW => usize::from(followed[step].thread),
             _ => pick_of_set(able, draws),
         };
         let bit = 1u32 << thread;
