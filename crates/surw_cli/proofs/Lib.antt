@@ -12,6 +12,7 @@ pub mod OneScenario
 pub mod OneScript
 pub mod Outcomes
 pub mod ProfileStops
+pub mod Repeats
 pub mod ReplayStops
 pub mod Reports
 pub mod Safe

@@ -29,7 +29,7 @@ use Rattle.surw_cli.proofs.OneScenario.{fault-one, no-fault, scenario-one}
 use Rattle.surw_cli.proofs.OneScript.{follow-script-one}
 
 -- a text is read in one way
-saved-one : (bytes : List ℕ) (saved twin : SavedRun) → saved_of bytes ≡ Ok saved → saved_of bytes ≡ Ok twin → twin ≡ saved
+pub saved-one : (bytes : List ℕ) (saved twin : SavedRun) → saved_of bytes ≡ Ok saved → saved_of bytes ≡ Ok twin → twin ≡ saved
 saved-one bytes saved twin is are = let results : Ok twin ≡ Ok saved = sym are ∙ is in cc results
 
 cause-one : (bytes : List ℕ) (fault other : ReplayFault) → saved_of bytes ≡ Err fault → saved_of bytes ≡ Err other → other ≡ fault

@@ -14,6 +14,7 @@ pub mod Planned
 pub mod ProfileAnswer
 pub mod Profiled
 pub mod Reached
+pub mod Repeats
 pub mod ReplayAnswer
 pub mod Saved
 pub mod Script

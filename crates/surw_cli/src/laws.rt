@@ -3,6 +3,7 @@ ghost use Rattle.std.specs.Prelude.{◌≡◌, ◌≢◌, ◌⊎◌, map, string
 ghost use Rattle.surw_cli.specs.Ask.{all_jobs, plain_jobs};
 ghost use Rattle.surw_cli.specs.CommandAnswer.{OneAnswer, safe_files};
 ghost use Rattle.surw_cli.specs.Ending.{IsAnswered};
+ghost use Rattle.surw_cli.specs.Repeats.{SavedRunsRepeat};
 
 use crate::status::Status;
 use crate::top::{surw, surw_plain};
@@ -48,4 +49,11 @@ pub fn on_threads_over_safe_devices<H: Threads + Wait + Sync, G: Stage>(
 /// that a call leaves are those of the one answer, unless memory or a device failed.
 pub fn one_answer()
     ensures { OneAnswer }
+{}
+
+/// What `plan` and `run` save of a run, where it can be read again, is repeated by `replay` over the same scenario: the
+/// same threads, events and replies, the same world and last words; and where the run's verdict is that every thread has
+/// ended, the step limit or a deadlock, the same verdict with the same monitors failed at the same places.
+pub fn saved_runs_repeat()
+    ensures { SavedRunsRepeat }
 {}
