@@ -1,8 +1,11 @@
 pub mod Comes
+pub mod Depths
+pub mod JobAnswers
 pub mod OneAnswer
 pub mod OneCounts
 pub mod OneDraws
 pub mod OneFile
+pub mod OneMake
 pub mod OneOrder
 pub mod OnePlan
 pub mod OneProfile
@@ -17,4 +20,4 @@ pub mod ReplayStops
 pub mod Reports
 pub mod Safe
 pub mod Stops
-pub mod Tails
+pub mod WordStops

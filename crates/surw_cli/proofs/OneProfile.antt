@@ -17,43 +17,43 @@ use Rattle.surw_cli.specs.Stop.{stop_of_profile}
 use Rattle.surw_cli.specs.declared.stop.Stop.TheVariants.{Refused}
 use Rattle.surw_cli.proofs.OneScript.{script-one}
 
-module _ (scenario : ScenarioState) where
+module _ (scenario : ScenarioState) (seed : ℕ) where
   same-script : (plan twin : Plan AnyRoutine AnyDraws AnyDraws) → IsProfilePlan scenario plan → IsProfilePlan scenario twin → script twin ≡ script plan
   same-script plan twin is are = script-one scenario plain_choice (no_counts scenario) plan twin is are
 
   -- its counts are one
-  pub profile-one : (selected all others totals : List ℕ) → IsProfileOf scenario selected all → IsProfileOf scenario others totals
+  pub profile-one : (selected all others totals : List ℕ) → IsProfileOf scenario seed selected all → IsProfileOf scenario seed others totals
       → (others ≡ selected) × (totals ≡ all)
   profile-one selected all others totals is twin =
       let same = same-script is.plan twin.plan is.planned twin.planned in
-      (one-profile (script is.plan) scenario.seed).counts selected all others totals is.made
-      (subst (λ (s : Script). IsProfile s scenario.seed others totals) same twin.made)
+      (one-profile (script is.plan) seed).counts selected all others totals is.made
+      (subst (λ (s : Script). IsProfile s seed others totals) same twin.made)
 
   -- a cause that refuses is no want of memory
-  refused : (fault : ProfileFault) (refusal : Fault) → IsUnprofiled scenario fault → stop_of_profile fault ≡ Refused refusal
-      → StopsProfile scenario fault × (fault ≢ OutOfMemory)
+  refused : (fault : ProfileFault) (refusal : Fault) → IsUnprofiled scenario seed fault → stop_of_profile fault ≡ Refused refusal
+      → StopsProfile scenario seed fault × (fault ≢ OutOfMemory)
   refused StepLimit refusal stops is = (stops, λ same. cc same)
   refused (Deadlock step) refusal stops is = (stops, λ same. cc same)
   refused OutOfMemory refusal stops is = cc is
 
   -- where there is a profile nothing refuses it
-  pub never-refused : (selected all : List ℕ) (fault : ProfileFault) (refusal : Fault) → IsProfileOf scenario selected all → IsUnprofiled scenario fault
+  pub never-refused : (selected all : List ℕ) (fault : ProfileFault) (refusal : Fault) → IsProfileOf scenario seed selected all → IsUnprofiled scenario seed fault
       → stop_of_profile fault ≡ Refused refusal → ⊥
   never-refused selected all fault refusal is none stop =
       let because = refused fault refusal none stop in
       let same = same-script is.plan because.0.plan is.planned because.0.planned in
-      because.1 ((one-profile (script is.plan) scenario.seed).ends selected all fault is.made
-      (subst (λ (s : Script). IsProfileStop s scenario.seed fault) same because.0.stopped))
+      because.1 ((one-profile (script is.plan) seed).ends selected all fault is.made
+      (subst (λ (s : Script). IsProfileStop s seed fault) same because.0.stopped))
 
   -- and what refuses it is one
-  pub refusal-one : (fault other : ProfileFault) (refusal twin : Fault) → IsUnprofiled scenario fault → IsUnprofiled scenario other
+  pub refusal-one : (fault other : ProfileFault) (refusal twin : Fault) → IsUnprofiled scenario seed fault → IsUnprofiled scenario seed other
       → stop_of_profile fault ≡ Refused refusal → stop_of_profile other ≡ Refused twin → twin ≡ refusal
   refusal-one fault other refusal twin none are stop again =
       let one = refused fault refusal none stop in
       let two = refused other twin are again in
       let same = same-script one.0.plan two.0.plan one.0.planned two.0.planned in
       let faults : other ≡ fault =
-      (one-profile (script one.0.plan) scenario.seed).stops fault other one.1 two.1 one.0.stopped
-      (subst (λ (s : Script). IsProfileStop s scenario.seed other) same two.0.stopped) in
+      (one-profile (script one.0.plan) seed).stops fault other one.1 two.1 one.0.stopped
+      (subst (λ (s : Script). IsProfileStop s seed other) same two.0.stopped) in
       let stops : Refused twin ≡ Refused refusal = sym again ∙ ap stop_of_profile faults ∙ stop in
       cc stops

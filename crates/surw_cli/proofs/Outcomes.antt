@@ -5,6 +5,7 @@ use Rattle.report_text.specs.Report.{report_text}
 use Rattle.routine_kit.specs.declared.any_routine.AnyRoutine.{AnyRoutine}
 use Rattle.run_rules.specs.Run.{IsRun, Outcome}
 use Rattle.run_rules.specs.declared.plan.Plan.{Plan}
+use Rattle.scenario_toml.specs.declared.choice.Choice.{Choice}
 use Rattle.seed_draws.specs.declared.any_draws.AnyDraws.{AnyDraws}
 use Rattle.selected_order.specs.KeepsOrder.{KeepsOrder}
 use Rattle.surw_io.specs.Content.{Entry}
@@ -24,10 +25,10 @@ use Rattle.surw_cli.specs.declared.stop.Stop.{Stop}
 use Rattle.surw_cli.specs.declared.stop.Stop.TheVariants.{OutOfMemory}
 
 -- the report of its run is the answer
-pub run-report : (save : Option (List ℕ)) (bytes : List ℕ) (plan : Plan AnyRoutine AnyDraws AnyDraws) (outcome : Outcome) (saved : Option SavedFile) (report : Report)
-    → IsPlanned bytes plan → IsRun (script plan) outcome → KeepsOrder (script plan) outcome → option_map to_create saved ≡ saved_file save bytes outcome.journal
-    → TellsRun outcome saved report → plan_answer save bytes (report_answer report)
-run-report save bytes plan outcome saved report planned run order file tells = record {
+pub run-report : (choice : Choice) (save : Option (List ℕ)) (bytes : List ℕ) (plan : Plan AnyRoutine AnyDraws AnyDraws) (outcome : Outcome) (saved : Option SavedFile) (report : Report)
+    → IsPlanned choice bytes plan → IsRun (script plan) outcome → KeepsOrder (script plan) outcome → option_map to_create saved ≡ saved_file save bytes outcome.journal
+    → TellsRun outcome saved report → plan_answer choice save bytes (report_answer report)
+run-report choice save bytes plan outcome saved report planned run order file tells = record {
   scenario = planned.scenario;
   form = planned.form;
   outcome = outcome;

@@ -11,8 +11,10 @@ use Rattle.run_rules.specs.EventsMade.{events_made}
 use Rattle.run_rules.specs.Setup.{Setup}
 use Rattle.run_rules.specs.declared.entry.Entry.{Entry}
 use Rattle.run_rules.specs.declared.plan.Plan.{Plan}
+use Rattle.scenario_toml.specs.Chosen.{seed_by}
 use Rattle.scenario_toml.specs.Scenario.{scenario_of}
 use Rattle.scenario_toml.specs.State.{ScenarioState}
+use Rattle.scenario_toml.specs.declared.choice.Choice.{Choice}
 use Rattle.scenario_toml.specs.declared.strategy.Strategy.{Strategy}
 use Rattle.scenario_toml.specs.declared.strategy.Strategy.TheVariants.{Urw, Surw, Pct, Plain}
 use Rattle.seed_draws.specs.declared.any_draws.AnyDraws.{AnyDraws}
@@ -24,25 +26,26 @@ use Rattle.surw_cli.specs.Script.{script}
 use Rattle.surw_cli.specs.Stop.{IsStopBy, IsStopOf, stop_of_profile}
 
 -- a profile that stops is the scenario's
-pub unprofiled : (scenario : ScenarioState) (plan : Plan AnyRoutine AnyDraws AnyDraws) (fault : ProfileFault) → IsProfilePlan scenario plan
-    → IsProfileStop (script plan) scenario.seed fault → IsUnprofiled scenario fault
-unprofiled scenario plan StepLimit planned stopped = record { plan = plan; planned = planned; stopped = stopped }
-unprofiled scenario plan (Deadlock step) planned stopped = record { plan = plan; planned = planned; stopped = stopped }
-unprofiled scenario plan OutOfMemory planned stopped = tt
+pub unprofiled : (scenario : ScenarioState) (seed : ℕ) (plan : Plan AnyRoutine AnyDraws AnyDraws) (fault : ProfileFault) → IsProfilePlan scenario plan
+    → IsProfileStop (script plan) seed fault → IsUnprofiled scenario seed fault
+unprofiled scenario seed plan StepLimit planned stopped = record { plan = plan; planned = planned; stopped = stopped }
+unprofiled scenario seed plan (Deadlock step) planned stopped = record { plan = plan; planned = planned; stopped = stopped }
+unprofiled scenario seed plan OutOfMemory planned stopped = tt
 
 -- it stops the job `profile`
-pub profile-stop : (bytes : List ℕ) (scenario : ScenarioState) (fault : ProfileFault) → scenario_of bytes ≡ Ok scenario → IsUnprofiled scenario fault
-    → IsStopOf (profile_answer bytes) (stop_of_profile fault)
-profile-stop bytes scenario StepLimit form stopped = record { scenario = scenario; form = form; stopped = stopped }
-profile-stop bytes scenario (Deadlock step) form stopped = record { scenario = scenario; form = form; stopped = stopped }
-profile-stop bytes scenario OutOfMemory form stopped = tt
+pub profile-stop : (choice : Choice) (bytes : List ℕ) (scenario : ScenarioState) (fault : ProfileFault) → scenario_of bytes ≡ Ok scenario
+    → IsUnprofiled scenario (seed_by scenario choice) fault
+    → IsStopOf (profile_answer choice bytes) (stop_of_profile fault)
+profile-stop choice bytes scenario StepLimit form stopped = record { scenario = scenario; form = form; stopped = stopped }
+profile-stop choice bytes scenario (Deadlock step) form stopped = record { scenario = scenario; form = form; stopped = stopped }
+profile-stop choice bytes scenario OutOfMemory form stopped = tt
 
 -- and the job `plan`
-pub plan-stop : (bytes : List ℕ) (scenario : ScenarioState) (fault : ProfileFault) → scenario_of bytes ≡ Ok scenario → IsUncounted scenario fault
-    → IsStopBy (IsUnplanned bytes) (stop_of_profile fault)
-plan-stop bytes scenario StepLimit form stopped = record { scenario = scenario; form = form; stopped = stopped }
-plan-stop bytes scenario (Deadlock step) form stopped = record { scenario = scenario; form = form; stopped = stopped }
-plan-stop bytes scenario OutOfMemory form stopped = tt
+pub plan-stop : (choice : Choice) (bytes : List ℕ) (scenario : ScenarioState) (fault : ProfileFault) → scenario_of bytes ≡ Ok scenario → IsUncounted scenario choice fault
+    → IsStopBy (IsUnplanned choice bytes) (stop_of_profile fault)
+plan-stop choice bytes scenario StepLimit form stopped = record { scenario = scenario; form = form; stopped = stopped }
+plan-stop choice bytes scenario (Deadlock step) form stopped = record { scenario = scenario; form = form; stopped = stopped }
+plan-stop choice bytes scenario OutOfMemory form stopped = tt
 
 -- a count for each thread
 made-each : (selection : List Pickable) (journal : List Entry) (threads : ℕ) → length (counts_made selection journal threads) ≡ threads
@@ -57,9 +60,9 @@ each-by Pct selected all threads of_selected of_all = of_all
 each-by Plain selected all threads of_selected of_all = of_all
 
 -- so the counts of a profile are one for each thread, whatever the strategy
-pub profiled-each : (scenario : ScenarioState) (selected all : List ℕ) (strategy : Strategy) → IsProfileOf scenario selected all
+pub profiled-each : (scenario : ScenarioState) (seed : ℕ) (selected all : List ℕ) (strategy : Strategy) → IsProfileOf scenario seed selected all
     → length (counted_by strategy selected all) ≡ length scenario.routines
-profiled-each scenario selected all strategy is =
+profiled-each scenario seed selected all strategy is =
     let journal : List Entry = is.made.ends.outcome.journal in
     let setup : Setup = (script is.plan).setup in
     let threads : setup.threads ≡ length scenario.routines = ap length is.planned.routines in

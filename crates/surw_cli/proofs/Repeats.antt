@@ -26,6 +26,7 @@ use Rattle.run_rules.specs.declared.entry.Entry.{Entry}
 use Rattle.run_rules.specs.declared.plan.Plan.{Plan}
 use Rattle.run_rules.specs.declared.verdict.Verdict.{Verdict}
 use Rattle.scenario_toml.specs.State.{ScenarioState}
+use Rattle.scenario_toml.specs.declared.choice.Choice.{Choice}
 use Rattle.seed_draws.specs.declared.any_draws.AnyDraws.{AnyDraws}
 use Rattle.test_world.specs.Monitor.{is_failing}
 use Rattle.test_world.specs.World.{WorldState, new_world}
@@ -76,7 +77,7 @@ run-short script journal run = elim (cases_lt script.setup.max_steps (length jou
 
 -- ---- a plan that follows a run's saved text
 
-module _ (bytes : List ℕ) (scenario : ScenarioState) (outcome again : Outcome) (plan : Plan AnyRoutine AnyDraws AnyDraws) (is : IsRunOf scenario outcome)
+module _ (bytes : List ℕ) (scenario : ScenarioState) (choice : Choice) (outcome again : Outcome) (plan : Plan AnyRoutine AnyDraws AnyDraws) (is : IsRunOf scenario choice outcome)
     (follows : IsReplayPlanned bytes scenario (saved_text (saved_run bytes outcome.journal)) plan)
     (same : follows.saved ≡ saved_run bytes outcome.journal) (run : IsRun (script plan) again) where
   abbrev first : Script
@@ -124,7 +125,7 @@ module _ (bytes : List ℕ) (scenario : ScenarioState) (outcome again : Outcome)
       }
 
 pub saved-runs-repeat : SavedRunsRepeat
-saved-runs-repeat bytes scenario outcome again plan is within follows run =
+saved-runs-repeat bytes scenario choice outcome again plan is within follows run =
     let saved : SavedRun = saved_run bytes outcome.journal in
     let same : follows.saved ≡ saved = saved-one (saved_text saved) saved follows.saved (text-reads saved (saved_text saved) within refl) follows.form in
-    saved-repeats bytes scenario outcome again plan is follows same run
+    saved-repeats bytes scenario choice outcome again plan is follows same run

@@ -6,13 +6,15 @@ use Rattle.surw_io.specs.Content.{Entry, Missing}
 use Rattle.surw_base.specs.declared.limits.TheConstants.{SAVED_LIMIT}
 use Rattle.scenario_toml.specs.State.{ScenarioState}
 use Rattle.surw_cli.specs.Answer.{Answer, Report, Refusal}
-use Rattle.surw_cli.specs.Ask.{file_limit}
+use Rattle.command_words.specs.Ask.{Ask}
 use Rattle.surw_cli.specs.CommandAnswer.{Files, IsAnswer, NoJob, OfJob, answer_of, answer_to, saved_name}
 use Rattle.surw_cli.specs.Ending.{Call, Ends, IsAnswered, WasRefused, WasReported}
 use Rattle.surw_cli.specs.FileAnswer.{Coming, IsFileAnswer, Absent, Long, Held}
+use Rattle.surw_cli.specs.Jobs.{file_limit}
 use Rattle.surw_cli.specs.ReplayAnswer.{IsReplayAnswer, NoScenario, OfSaved, replayed_answer}
-use Rattle.surw_cli.specs.declared.ask.Job.{Job}
-use Rattle.surw_cli.specs.declared.ask.Job.TheVariants.{Order, Draws, Plan, Profile, Check, Run, Replay}
+use Rattle.command_words.specs.declared.job.Job.{Job}
+use Rattle.command_words.specs.declared.job.Job.TheVariants.{Order, Draws, Plan, Profile, Check, Make, Run, Replay}
+use Rattle.surw_cli.proofs.JobAnswers.{job-answers}
 use Rattle.surw_cli.specs.declared.status.Status.{Status}
 use Rattle.surw_cli.specs.declared.status.Status.TheVariants.{Done, Failing, Words, Form, WrongCount, Asked, SavedForm, StepLimit, ReadFault, WriteFault, OutOfMemory, Draw, TooLong}
 
@@ -29,22 +31,26 @@ replay-there bytes coming there (NoScenario fault wrong is) = cc is
 replay-there bytes coming there (OfSaved scenario form made) =
     file-there SAVED_LIMIT (replayed_answer bytes scenario) coming there (λ saved_bytes none. none) made
 
-job-there : (job : Job) (saved save : Option (List ℕ)) (second : Coming) (bytes : List ℕ) → ((name : List ℕ) → second name ≢ Some Missing)
-    → answer_of job saved save second bytes (Refusal Read) → ⊥
-job-there Order saved save second bytes there made = made
-job-there Draws saved save second bytes there made = made
-job-there Plan saved save second bytes there made = made
-job-there Profile saved save second bytes there made = made
-job-there Check saved save second bytes there made = made
-job-there Run saved save second bytes there made = made
-job-there Replay saved save second bytes there made = replay-there bytes (second (saved_name saved)) (there (saved_name saved)) made
+job-there : (job : Job) (ask : Ask) (second : Coming) (bytes : List ℕ) → ((name : List ℕ) → second name ≢ Some Missing)
+    → answer_of job ask second bytes (Refusal Read) → ⊥
+job-there Order ask second bytes there made = made
+job-there Draws ask second bytes there made = made
+job-there Plan ask second bytes there made = made
+job-there Profile ask second bytes there made = made
+job-there Check ask second bytes there made = made
+job-there Make ask second bytes there made = made
+job-there Run ask second bytes there made = made
+job-there Replay ask second bytes there made = replay-there bytes (second (saved_name ask.saved)) (there (saved_name ask.saved)) made
 
 never-read : (jobs : List Job) (words : List (List ℕ)) (files : Files) → ((name : List ℕ) → files.first name ≢ Some Missing)
     → ((name : List ℕ) → files.second name ≢ Some Missing) → IsAnswer jobs words files (Refusal Read) → ⊥
 never-read jobs words files first second (NoJob none is) = cc is
 never-read jobs words files first second (OfJob ask asked made) =
-    file-there (file_limit ask.job) (answer_to ask files.second) (files.first ask.name) (first ask.name)
-    (λ bytes made. job-there ask.job ask.saved ask.save files.second bytes second made) made
+    ⊎_elim
+    (λ over. file-there (file_limit ask.job) (answer_to ask files.second) (files.first ask.name) (first ask.name)
+    (λ bytes made. job-there ask.job ask files.second bytes second made) over)
+    (λ own. own)
+    (job-answers ask.job ask files (Refusal Read) made)
 
 -- ---- how it ends
 

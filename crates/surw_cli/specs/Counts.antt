@@ -1,6 +1,8 @@
 -- The counts that a scenario is run with.
 use Rattle.std.specs.Prelude.{◌≡◌, ℕ, List}
 use Rattle.pure_run.specs.declared.profiling.ProfileFault.{ProfileFault}
+use Rattle.scenario_toml.specs.Chosen.{seed_by, strategy_by}
+use Rattle.scenario_toml.specs.declared.choice.Choice.{Choice}
 use Rattle.scenario_toml.specs.declared.counts_rule.CountsRule.{CountsRule}
 use Rattle.scenario_toml.specs.declared.counts_rule.CountsRule.TheVariants.{Profile, Given}
 use Rattle.scenario_toml.specs.declared.strategy.Strategy.{Strategy}
@@ -20,22 +22,22 @@ counted_by Surw selected all = selected
 counted_by strategy selected all = all
 
 -- the counts are those of the scenario's profile
-pub record AreProfiled (scenario : ScenarioState) (counts : List ℕ) : Type 0 where
+pub record AreProfiled (scenario : ScenarioState) (choice : Choice) (counts : List ℕ) : Type 0 where
   pub selected : List ℕ
   pub all : List ℕ
-  pub profile : IsProfileOf scenario selected all
-  pub counted : counts ≡ counted_by scenario.strategy selected all
+  pub profile : IsProfileOf scenario (seed_by scenario choice) selected all
+  pub counted : counts ≡ counted_by (strategy_by scenario choice) selected all
 
 -- the counts are those that are given, or those of a profile
-abbrev pub AreFrom : CountsRule → ScenarioState → List ℕ → Type 0
-AreFrom (Given given) scenario counts = counts ≡ given
-AreFrom Profile scenario counts = AreProfiled scenario counts
+abbrev pub AreFrom : CountsRule → ScenarioState → Choice → List ℕ → Type 0
+AreFrom (Given given) scenario choice counts = counts ≡ given
+AreFrom Profile scenario choice counts = AreProfiled scenario choice counts
 
--- the counts that the scenario is run with
-abbrev pub AreCounts : ScenarioState → List ℕ → Type 0
-AreCounts scenario counts = AreFrom (rule_by scenario.strategy scenario) scenario counts
+-- the counts that the scenario is run with under a choice
+abbrev pub AreCounts : ScenarioState → Choice → List ℕ → Type 0
+AreCounts scenario choice counts = AreFrom (rule_by (strategy_by scenario choice) scenario) scenario choice counts
 
 -- the counts are asked of a profile, and there is none for this cause
-pub record IsUncounted (scenario : ScenarioState) (fault : ProfileFault) : Type 0 where
-  pub asked : rule_by scenario.strategy scenario ≡ Profile
-  pub cause : IsUnprofiled scenario fault
+pub record IsUncounted (scenario : ScenarioState) (choice : Choice) (fault : ProfileFault) : Type 0 where
+  pub asked : rule_by (strategy_by scenario choice) scenario ≡ Profile
+  pub cause : IsUnprofiled scenario (seed_by scenario choice) fault

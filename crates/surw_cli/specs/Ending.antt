@@ -9,7 +9,7 @@ use Rattle.fault_text.specs.declared.fault.Fault.TheVariants.{Read}
 use Rattle.surw_cli.specs.Answer.{Answer, Report, Refusal}
 use Rattle.surw_cli.specs.CommandAnswer.{Files, IsAnswer}
 use Rattle.surw_cli.specs.Status.{status_of}
-use Rattle.surw_cli.specs.declared.ask.Job.{Job}
+use Rattle.command_words.specs.declared.job.Job.{Job}
 use Rattle.surw_cli.specs.declared.status.Status.{Status}
 use Rattle.surw_cli.specs.declared.status.Status.TheVariants.{Done, Failing, Words, Form, WrongCount, Asked, SavedForm, StepLimit, ReadFault, WriteFault, OutOfMemory, Draw, TooLong}
 

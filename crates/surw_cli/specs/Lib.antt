@@ -1,6 +1,4 @@
 pub mod Answer
-pub mod Ask
-pub mod Asked
 pub mod CheckAnswer
 pub mod CommandAnswer
 pub mod CommandLine
@@ -8,6 +6,8 @@ pub mod Counts
 pub mod DrawsAnswer
 pub mod Ending
 pub mod FileAnswer
+pub mod Jobs
+pub mod MakeAnswer
 pub mod OrderAnswer
 pub mod PlanAnswer
 pub mod Planned

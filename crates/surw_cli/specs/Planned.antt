@@ -1,5 +1,5 @@
 -- The run that the jobs `plan` and `run` make of a scenario, and the status that its end gives.
-use Rattle.std.specs.Prelude.{◌≡◌, ℕ, Bool, List, None, Ok, is_some, if◌then◌else◌}
+use Rattle.std.specs.Prelude.{◌≡◌, ℕ, Bool, List, Ok, is_some, if◌then◌else◌}
 use Rattle.std.specs.List.{list_any}
 use Rattle.routine_kit.specs.declared.any_routine.AnyRoutine.{AnyRoutine}
 use Rattle.run_rules.specs.declared.plan.Plan.{Plan}
@@ -17,24 +17,20 @@ use Rattle.surw_cli.specs.declared.status.Status.TheVariants.{Done, Failing, Wro
 use Rattle.surw_cli.specs.Counts.{AreCounts}
 use Rattle.surw_cli.specs.Script.{script}
 
--- nothing is chosen in place of the file's values
-abbrev pub no_choice : Choice
-no_choice = record { strategy = None; seed = None; depth = None }
-
--- the bytes are a scenario, and this is its plan with its counts
-pub record IsPlanned (bytes : List ℕ) (plan : Plan AnyRoutine AnyDraws AnyDraws) : Type 0 where
+-- the bytes are a scenario, and this is its plan under a choice, with its counts
+pub record IsPlanned (choice : Choice) (bytes : List ℕ) (plan : Plan AnyRoutine AnyDraws AnyDraws) : Type 0 where
   pub scenario : ScenarioState
   pub form : scenario_of bytes ≡ Ok scenario
   pub counts : List ℕ
-  pub counted : AreCounts scenario counts
-  pub planned : IsPlanOf scenario no_choice counts plan
+  pub counted : AreCounts scenario choice counts
+  pub planned : IsPlanOf scenario choice counts plan
 
--- the run of the scenario's plan; under SURW it keeps the promise on the order of the selected events
-pub record IsRunOf (scenario : ScenarioState) (outcome : Outcome) : Type 0 where
+-- the run of the scenario's plan under a choice; under SURW it keeps the promise on the order of the selected events
+pub record IsRunOf (scenario : ScenarioState) (choice : Choice) (outcome : Outcome) : Type 0 where
   pub counts : List ℕ
-  pub counted : AreCounts scenario counts
+  pub counted : AreCounts scenario choice counts
   pub plan : Plan AnyRoutine AnyDraws AnyDraws
-  pub planned : IsPlanOf scenario no_choice counts plan
+  pub planned : IsPlanOf scenario choice counts plan
   pub run : IsRun (script plan) outcome
   pub order : KeepsOrder (script plan) outcome
 

@@ -21,19 +21,19 @@ plain_choice = record { strategy = Some Plain; seed = None; depth = None }
 abbrev pub IsProfilePlan : ScenarioState → Plan AnyRoutine AnyDraws AnyDraws → Type 0
 IsProfilePlan scenario plan = IsPlanOf scenario plain_choice (no_counts scenario) plan
 
--- how many selected events and how many events each thread made in the run that the scenario's seed gives
-pub record IsProfileOf (scenario : ScenarioState) (selected all : List ℕ) : Type 0 where
+-- how many selected events and how many events each thread made in the run that this seed gives
+pub record IsProfileOf (scenario : ScenarioState) (seed : ℕ) (selected all : List ℕ) : Type 0 where
   pub plan : Plan AnyRoutine AnyDraws AnyDraws
   pub planned : IsProfilePlan scenario plan
-  pub made : IsProfile (script plan) scenario.seed selected all
+  pub made : IsProfile (script plan) seed selected all
 
 -- that run stops for this cause
-pub record StopsProfile (scenario : ScenarioState) (fault : ProfileFault) : Type 0 where
+pub record StopsProfile (scenario : ScenarioState) (seed : ℕ) (fault : ProfileFault) : Type 0 where
   pub plan : Plan AnyRoutine AnyDraws AnyDraws
   pub planned : IsProfilePlan scenario plan
-  pub stopped : IsProfileStop (script plan) scenario.seed fault
+  pub stopped : IsProfileStop (script plan) seed fault
 
 -- why a scenario has no profile: its run stops so, or memory is refused
-abbrev pub IsUnprofiled : ScenarioState → ProfileFault → Type 0
-IsUnprofiled scenario OutOfMemory = Unit {0}
-IsUnprofiled scenario fault = StopsProfile scenario fault
+abbrev pub IsUnprofiled : ScenarioState → ℕ → ProfileFault → Type 0
+IsUnprofiled scenario seed OutOfMemory = Unit {0}
+IsUnprofiled scenario seed fault = StopsProfile scenario seed fault

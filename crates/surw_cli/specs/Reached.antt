@@ -1,5 +1,7 @@
 -- What a call comes to, before it is told.
 use Rattle.std.specs.Prelude.{◌≡◌, ◌⊎◌, ℕ, Option, Result, Ok, Err, option_map, string_bytes}
+use Rattle.command_words.specs.declared.job.Job.{Job}
+use Rattle.command_words.specs.declared.job.Job.TheVariants.{Make, Replay}
 use Rattle.report_text.specs.Report.{report_text}
 use Rattle.run_rules.specs.Run.{Outcome}
 use Rattle.surw_io.specs.Cause.{one_more}
@@ -8,10 +10,10 @@ use Rattle.surw_cli.specs.Answer.{Answer}
 use Rattle.surw_cli.specs.Answer as answer
 use Rattle.surw_cli.specs.Planned.{status_of_run}
 use Rattle.surw_cli.specs.Stop.{IsStopAt}
-use Rattle.surw_cli.specs.declared.ask.Job.{Job}
-use Rattle.surw_cli.specs.declared.ask.Job.TheVariants.{Replay}
 use Rattle.surw_cli.specs.declared.report.Report.{Report}
 use Rattle.surw_cli.specs.declared.report.SavedFile.{SavedFile}
+use Rattle.surw_cli.specs.declared.status.Status.{Status}
+use Rattle.surw_cli.specs.declared.status.Status.TheVariants.{OutOfMemory}
 use Rattle.surw_cli.specs.declared.stop.Stop.{Stop}
 
 -- a file that is to be saved, by its name and its bytes
@@ -38,6 +40,11 @@ abbrev pub OpensMore : Job → ℕ → ℕ → Type 0
 OpensMore Replay before now = (now ≡ before) ⊎ (now ≡ one_more before)
 OpensMore job before now = now ≡ before
 
--- and with the first
+-- and with the first, which `make` hasn't
 abbrev pub OpensFor : Job → ℕ → ℕ → Type 0
+OpensFor Make before now = now ≡ before
 OpensFor job before now = OpensMore job (one_more before) now
+
+-- memory for the words was refused, and no file opened
+abbrev pub WasUnread : ℕ → ℕ → Status → Type 0
+WasUnread before now status = (status ≡ OutOfMemory) × (now ≡ before)

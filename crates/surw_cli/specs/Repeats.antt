@@ -7,6 +7,7 @@ use Rattle.run_rules.specs.Replay.{IsKeptVerdict, unforced}
 use Rattle.run_rules.specs.Run.{IsRun, Outcome}
 use Rattle.run_rules.specs.declared.plan.Plan.{Plan}
 use Rattle.scenario_toml.specs.State.{ScenarioState}
+use Rattle.scenario_toml.specs.declared.choice.Choice.{Choice}
 use Rattle.seed_draws.specs.declared.any_draws.AnyDraws.{AnyDraws}
 use Rattle.surw_cli.specs.Planned.{IsRunOf}
 use Rattle.surw_cli.specs.ReplayAnswer.{IsReplayPlanned}
@@ -22,9 +23,9 @@ pub record Repeats (outcome again : Outcome) : Type 0 where
   pub verdict : IsKeptVerdict outcome.verdict → again.verdict ≡ outcome.verdict
   pub failed : IsKeptVerdict outcome.verdict → again.failed ≡ outcome.failed
 
--- the run of the scenario that is in these bytes is repeated by the run that follows its saved text
+-- the run of the scenario that is in these bytes, under any choice, is repeated by the run that follows its saved text
 abbrev pub SavedRunsRepeat : Type 0
 SavedRunsRepeat =
-    (bytes : List ℕ) (scenario : ScenarioState) (outcome again : Outcome) (plan : Plan AnyRoutine AnyDraws AnyDraws) → IsRunOf scenario outcome
+    (bytes : List ℕ) (scenario : ScenarioState) (choice : Choice) (outcome again : Outcome) (plan : Plan AnyRoutine AnyDraws AnyDraws) → IsRunOf scenario choice outcome
     → IsSavedRun (saved_run bytes outcome.journal) → IsReplayPlanned bytes scenario (saved_text (saved_run bytes outcome.journal)) plan
     → IsRun (script plan) again → Repeats outcome again

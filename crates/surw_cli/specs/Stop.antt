@@ -1,11 +1,13 @@
 -- How a refusal of a part stops a job, and what holds of a job that stopped.
 use Rattle.std.specs.Prelude.{◌≡◌, ◌⊎◌, ℕ, Option, Some}
+use Rattle.command_words.specs.declared.words.WordFault.{WordFault}
+use Rattle.command_words.specs.declared.words.WordFault.TheVariants as words
 use Rattle.draw_split.specs.declared.joining.JoinFault.{JoinFault}
 use Rattle.draw_split.specs.declared.joining.JoinFault.TheVariants as join
 use Rattle.draw_split.specs.declared.naming.SplitFault.{SplitFault}
 use Rattle.draw_split.specs.declared.naming.SplitFault.TheVariants as split
 use Rattle.fault_text.specs.declared.fault.Fault.{Fault}
-use Rattle.fault_text.specs.declared.fault.Fault.TheVariants.{Lines, Read, Length, Large, Miscount, Offsets, Offset, TooLong, Scenario, ProfileStepLimit, ProfileDeadlock, Replay}
+use Rattle.fault_text.specs.declared.fault.Fault.TheVariants.{Words, Lines, Read, Length, Large, Miscount, Offsets, Offset, TooLong, Scenario, ProfileStepLimit, ProfileDeadlock, Replay}
 use Rattle.order_text.specs.declared.file_fault.FileFault.{FileFault}
 use Rattle.order_text.specs.declared.file_fault.FileFault.TheVariants as file
 use Rattle.pure_run.specs.declared.profiling.ProfileFault.{ProfileFault}
@@ -28,6 +30,10 @@ abbrev pub stop_of_fetch : ℕ → FetchFault → Stop
 stop_of_fetch limit fetch.Failed = Refused Read
 stop_of_fetch limit (fetch.TooLong taken) = Refused (TooLong limit)
 stop_of_fetch limit fetch.OutOfMemory = OutOfMemory
+
+abbrev pub stop_of_words : WordFault → Stop
+stop_of_words words.Form = Refused Words
+stop_of_words words.OutOfMemory = OutOfMemory
 
 abbrev pub stop_of_file : FileFault → Stop
 stop_of_file (file.Lines number) = Refused (Lines number)

@@ -1,6 +1,6 @@
-ghost use Rattle.std.specs.Prelude.{◌≡◌, IfErr};
+ghost use Rattle.std.specs.Prelude.{◌≡◌, ◌⊎◌, IfErr};
 ghost use Rattle.std.specs.IoError.{error_kind};
-ghost use Rattle.surw_cli.specs.Ask.{all_jobs};
+ghost use Rattle.surw_cli.specs.Jobs.{all_jobs};
 ghost use Rattle.surw_cli.specs.CommandLine.{given_words};
 ghost use Rattle.surw_cli.specs.Ending.{Call, Ends};
 
@@ -42,7 +42,7 @@ pub fn status_of_words<H: Threads + Wait + Sync, F: Shelf, O: Sink, G: Stage>(
         taken = O.taken out.new;
       };
     } in Ends call result }
-    ensures no_text { IfErr words (λ error. error_kind error ≡ ErrorKind.InvalidData → result ≡ Status.Words) }
+    ensures no_text { IfErr words (λ error. error_kind error ≡ ErrorKind.InvalidData → (result ≡ Status.Words) ⊎ (result ≡ Status.OutOfMemory)) }
     ensures no_memory { IfErr words (λ error. (error_kind error ≡ ErrorKind.InvalidData → ⊥) → result ≡ Status.OutOfMemory) }
     ensures unopened { IfErr words (λ _. F.opens shelf.new ≡ F.opens shelf.old) }
 {

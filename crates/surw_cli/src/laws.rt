@@ -1,6 +1,6 @@
 //! What follows from the contract of the top call, and what pins it.
 ghost use Rattle.std.specs.Prelude.{◌≡◌, ◌≢◌, ◌⊎◌, map, string_bytes};
-ghost use Rattle.surw_cli.specs.Ask.{all_jobs, plain_jobs};
+ghost use Rattle.surw_cli.specs.Jobs.{all_jobs, plain_jobs};
 ghost use Rattle.surw_cli.specs.CommandAnswer.{OneAnswer, safe_files};
 ghost use Rattle.surw_cli.specs.Ending.{IsAnswered};
 ghost use Rattle.surw_cli.specs.Repeats.{SavedRunsRepeat};

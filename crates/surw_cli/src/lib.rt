@@ -1,10 +1,9 @@
 //! The top call of SURW: words and a shelf of files in, a status and a report out.
 #![tactic(auto)]
 
-mod ask;
-mod asked;
 mod command_line;
 mod fetched;
+mod files;
 mod jobs;
 pub mod laws;
 mod report;

@@ -1,6 +1,7 @@
 ghost use Rattle.std.specs.Prelude.{◌≡◌};
 ghost use Rattle.surw_cli.specs.Stop.{stop_of_fetch};
 
+use command_words::WordFault;
 use draw_split::{JoinFault, SplitFault};
 use fault_text::Fault;
 use order_text::FileFault;
@@ -28,6 +29,20 @@ impl Stop {
             FetchFault::Failed => Stop::Refused(Fault::Read),
             FetchFault::TooLong { .. } => Stop::Refused(Fault::TooLong { limit }),
             FetchFault::OutOfMemory => Stop::OutOfMemory,
+        }
+    }
+}
+
+impl From<WordFault> for Stop {
+    ghost use Rattle.std.specs.Prelude.{◌≡◌};
+    ghost use Rattle.surw_cli.specs.Stop.{stop_of_words};
+
+    ghost from_gives = { λ fault stop. stop ≡ stop_of_words fault };
+
+    fn from(fault: WordFault) -> Self {
+        match fault {
+            WordFault::Form => Stop::Refused(Fault::Words),
+            WordFault::OutOfMemory => Stop::OutOfMemory,
         }
     }
 }

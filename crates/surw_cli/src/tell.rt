@@ -6,8 +6,8 @@ ghost use Rattle.surw_io.specs.Cause.{HasCause};
 ghost use Rattle.surw_io.specs.Made.{HoldsFilePrefix};
 ghost use Rattle.surw_cli.specs.Reached.{ComesTo, report_answer, to_create};
 ghost use Rattle.surw_cli.specs.Status.{status_of};
-ghost use Rattle.surw_cli.specs.declared.ask.Job.{Job};
-ghost use Rattle.surw_cli.specs.declared.stop.Stop.TheVariants.{Refused};
+ghost use Rattle.command_words.specs.declared.job.Job.{Job};
+ghost use Rattle.surw_cli.specs.declared.stop.Stop.TheVariants.{OutOfMemory, Refused};
 
 use crate::report::{Report, SavedFile};
 use crate::status::Status;
@@ -42,6 +42,7 @@ pub(crate) fn tell<F: Shelf, O: Sink>(
           };
         } in Ends call result }
     ensures refused { (fault : Fault) → report ≡ Err (Refused fault) → result ≡ status_of fault }
+    ensures no_memory { report ≡ Err OutOfMemory → result ≡ Status.OutOfMemory }
     ensures opens { F.opens shelf.new ≡ F.opens shelf.old }
 {
     match report {

@@ -1,21 +1,22 @@
-ghost use Rattle.std.specs.Prelude.{◌≡◌, map, string_bytes};
-ghost use Rattle.surw_cli.specs.Ask.{Ask, AsksFor, AsksForNothing, all_jobs, plain_jobs};
+ghost use Rattle.std.specs.Prelude.{◌≡◌, ◌⊎◌, map, string_bytes};
+ghost use Rattle.command_words.specs.Ask.{Ask, AsksFor, AsksForNothing};
 ghost use Rattle.surw_cli.specs.Ending.{Call, Ends};
-ghost use Rattle.surw_cli.specs.Reached.{OpensFor};
+ghost use Rattle.surw_cli.specs.Jobs.{all_jobs, plain_jobs};
+ghost use Rattle.surw_cli.specs.Reached.{OpensFor, WasUnread};
 
-use crate::ask::Job;
-use crate::asked::asked_of;
 use crate::jobs::{report_of, report_on_threads};
 use crate::status::Status;
+use crate::stop::Stop;
 use crate::tell::tell;
+use command_words::{Job, read_words};
 use gate_core::Stage;
 use std::alloc::Global;
 use std::sync::Wait;
 use std::thread::Threads;
 use surw_io::{Shelf, Sink};
 
-/// Does the job that the words after the program's name ask for: `order`, `draws`, `plan`, `profile`, `check`, `run` or
-/// `replay`. The report, or a refusal's line, goes to `out`, behind the file to which a run is saved. It waits for the
+/// Does the job that the words after the program's name ask for: `order`, `draws`, `plan`, `profile`, `check`, `make`,
+/// `run` or `replay`. The report, or a refusal's line, goes to `out`, behind the file to which a run is saved. It waits for the
 /// threads of a `run` and a `replay`, by which the stage is called; every other job is done as `surw_plain` does it.
 ///
 /// The status, the file that is created and what was written are the answer to the words and the files, unless a device
@@ -49,9 +50,9 @@ pub fn surw<H: Threads + Wait + Sync, F: Shelf, O: Sink, G: Stage>(
         taken = O.taken out.new;
       };
     } in Ends call result }
-    ensures unasked { AsksForNothing all_jobs (map string_bytes words.now) → result ≡ Status.Words }
+    ensures unasked { AsksForNothing all_jobs (map string_bytes words.now) → (result ≡ Status.Words) ⊎ (result ≡ Status.OutOfMemory) }
     ensures opened { (ask : Ask) → AsksFor all_jobs (map string_bytes words.now) ask
-        → OpensFor ask.job (F.opens shelf.old) (F.opens shelf.new) }
+        → OpensFor ask.job (F.opens shelf.old) (F.opens shelf.new) ⊎ WasUnread (F.opens shelf.old) (F.opens shelf.new) result }
     ensures unopened { AsksForNothing all_jobs (map string_bytes words.now) → F.opens shelf.new ≡ F.opens shelf.old }
 {
     let jobs = [
@@ -60,21 +61,21 @@ pub fn surw<H: Threads + Wait + Sync, F: Shelf, O: Sink, G: Stage>(
         Job::Plan,
         Job::Profile,
         Job::Check,
+        Job::Make,
         Job::Run,
         Job::Replay,
     ];
-    match asked_of(alloc, &jobs, words, shelf) {
-        Ok(asked) => {
-            let bytes = asked.bytes.as_slice();
-            let report = report_on_threads(rt, alloc, &asked.ask, bytes, shelf, stage);
+    match read_words(alloc, &jobs, words) {
+        Ok(ask) => {
+            let report = report_on_threads(rt, alloc, &ask, shelf, stage);
             tell(report, shelf, out)
         }
-        Err(stop) => tell(Err(stop), shelf, out),
+        Err(fault) => tell(Err(Stop::from(fault)), shelf, out),
     }
 }
 
-/// Does the job that the words after the program's name ask for, one of `order`, `draws`, `plan`, `profile` and `check`,
-/// and always returns. All else is as `surw` has it; `run` and `replay` are no jobs of it.
+/// Does the job that the words after the program's name ask for, one of `order`, `draws`, `plan`, `profile`, `check` and
+/// `make`, and always returns. All else is as `surw` has it; `run` and `replay` are no jobs of it.
 pub fn surw_plain<F: Shelf, O: Sink>(
     alloc: Global,
     words: &[String],
@@ -100,17 +101,24 @@ pub fn surw_plain<F: Shelf, O: Sink>(
         taken = O.taken out.new;
       };
     } in Ends call result }
-    ensures unasked { AsksForNothing plain_jobs (map string_bytes words.now) → result ≡ Status.Words }
+    ensures unasked { AsksForNothing plain_jobs (map string_bytes words.now) → (result ≡ Status.Words) ⊎ (result ≡ Status.OutOfMemory) }
     ensures opened { (ask : Ask) → AsksFor plain_jobs (map string_bytes words.now) ask
-        → OpensFor ask.job (F.opens shelf.old) (F.opens shelf.new) }
+        → OpensFor ask.job (F.opens shelf.old) (F.opens shelf.new) ⊎ WasUnread (F.opens shelf.old) (F.opens shelf.new) result }
     ensures unopened { AsksForNothing plain_jobs (map string_bytes words.now) → F.opens shelf.new ≡ F.opens shelf.old }
 {
-    let jobs = [Job::Order, Job::Draws, Job::Plan, Job::Profile, Job::Check];
-    match asked_of(alloc, &jobs, words, shelf) {
-        Ok(asked) => {
-            let report = report_of(alloc, &asked.ask, asked.bytes.as_slice(), shelf);
+    let jobs = [
+        Job::Order,
+        Job::Draws,
+        Job::Plan,
+        Job::Profile,
+        Job::Check,
+        Job::Make,
+    ];
+    match read_words(alloc, &jobs, words) {
+        Ok(ask) => {
+            let report = report_of(alloc, &ask, shelf);
             tell(report, shelf, out)
         }
-        Err(stop) => tell(Err(stop), shelf, out),
+        Err(fault) => tell(Err(Stop::from(fault)), shelf, out),
     }
 }

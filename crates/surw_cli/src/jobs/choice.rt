@@ -1,6 +1,6 @@
 use scenario_toml::{Choice, Strategy};
 
-/// Nothing in place of the file's values.
+/// Nothing in place of a scenario's values.
 pub(crate) const NO_CHOICE: Choice = Choice {
     strategy: None,
     seed: None,

@@ -28,8 +28,8 @@ pub(crate) fn report_of_outcome(
     })
 }
 
-// The status that a run ends with.
-fn status_of(run: &Run) -> Status
+/// The status that a run ends with.
+pub(crate) fn status_of(run: &Run) -> Status
     ensures { result ≡ status_of_run run.now }
 {
     match run.verdict() {

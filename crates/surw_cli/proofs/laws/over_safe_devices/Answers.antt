@@ -1,5 +1,5 @@
 use Rattle.std.proofs.Common.{◌≡◌, ◌⊎◌, Some, None, map, string_bytes, subst, arith}
-use Rattle.surw_cli.specs.Ask.{plain_jobs}
+use Rattle.surw_cli.specs.Jobs.{plain_jobs}
 use Rattle.surw_cli.specs.CommandAnswer.{Files, safe_files}
 use Rattle.surw_cli.specs.Ending.{Call, IsAnswered}
 use Rattle.surw_cli.specs.declared.status.Status.TheVariants.{OutOfMemory}

@@ -12,11 +12,11 @@ returns-in_err-saved-clause-stopped c =
 pub returns-clause-report : goal.returns-clause-report
 returns-clause-report c =
     IfOk-weaker c.report_of_outcome.result _ _
-    (λ report tells. run-report (option_map (λ name. name.now) c.args.save) c.args.bytes.now c.in_ok-plan.plan c.in_ok-run.run' c.in_ok-saved.saved report
+    (λ report tells. run-report c.args.choice.now (option_map (λ name. name.now) c.args.save) c.args.bytes.now c.in_ok-plan.plan c.in_ok-run.run' c.in_ok-saved.saved report
     c.in_ok-plan.ensures.planned c.in_ok-run.ensures.run c.in_ok-run.ensures.order c.in_ok-saved.ensures tells)
     c.report_of_outcome.ensures.told
 
 pub returns-clause-stopped : goal.returns-clause-stopped
 returns-clause-stopped c =
     IfErr-weaker c.report_of_outcome.result _ _
-    (λ stop none. run-stop (plan_answer (option_map (λ name. name.now) c.args.save) c.args.bytes.now) stop none) c.report_of_outcome.ensures.stopped
+    (λ stop none. run-stop (plan_answer c.args.choice.now (option_map (λ name. name.now) c.args.save) c.args.bytes.now) stop none) c.report_of_outcome.ensures.stopped

@@ -5,7 +5,7 @@ use Rattle.surw_cli.proofs.jobs.planned.plan_of.Goals as goal
 pub returns-in_err-counts-clause-stopped : goal.returns-in_err-counts-clause-stopped
 returns-in_err-counts-clause-stopped c =
     let p = err_from_is_err_and c.from_residual-in_err-counts.result c.from_residual-in_err-counts.ensures.1 in
-    rw (p.1, p.2) (plan-stop c.args.bytes.now c.in_ok-scenario.scenario c.in_err-counts.field-0.0 c.in_ok-scenario.ensures.ok c.in_err-counts.ensures.stopped)
+    rw (p.1, p.2) (plan-stop c.args.choice.now c.args.bytes.now c.in_ok-scenario.scenario c.in_err-counts.field-0.0 c.in_ok-scenario.ensures.ok c.in_err-counts.ensures.stopped)
 
 pub returns-clause-planned : goal.returns-clause-planned
 returns-clause-planned c = record {

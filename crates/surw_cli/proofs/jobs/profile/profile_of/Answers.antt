@@ -1,9 +1,7 @@
 use Rattle.std.proofs.Common.{ℕ, List, subst}
 use Rattle.std.proofs.lemmas.Result.{IfErr-weaker, IfOk-weaker}
-use Rattle.pure_run.specs.Profile.{IsProfile, IsProfileStop}
 use Rattle.scenario_toml.specs.Plan.{IsPlanOf}
 use Rattle.surw_cli.specs.Profiled.{IsProfilePlan, plain_choice}
-use Rattle.surw_cli.specs.Script.{script}
 use Rattle.surw_cli.proofs.ProfileStops.{unprofiled}
 use Rattle.surw_cli.proofs.jobs.profile.profile_of.Goals as goal
 
@@ -17,7 +15,7 @@ returns-clause-found c =
     (λ found made. record {
       plan = plan;
       planned = planned;
-      made = subst (λ (seed : ℕ). IsProfile (script plan) seed found.selected found.all) c.seed.ensures made;
+      made = made;
     }) c.profile.ensures.counts
 
 pub returns-clause-stopped : goal.returns-clause-stopped
@@ -27,5 +25,4 @@ returns-clause-stopped c =
     let planned : IsProfilePlan scenario plan =
     subst (λ (counts : List ℕ). IsPlanOf scenario plain_choice counts plan) c.no_counts.ensures c.in_ok-plan.ensures.plan in
     IfErr-weaker c.profile.result _ _
-    (λ fault stopped. unprofiled scenario plan fault planned
-    (subst (λ (seed : ℕ). IsProfileStop (script plan) seed fault) c.seed.ensures stopped)) c.profile.ensures.stopped
+    (λ fault stopped. unprofiled scenario c.args.seed plan fault planned stopped) c.profile.ensures.stopped
