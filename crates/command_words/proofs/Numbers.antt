@@ -1,9 +1,9 @@
 -- The number that a text writes, by its digits and by `parse`.
-use Rattle.std.proofs.Common.{◌≡◌, ◌≢◌, ℕ, zero, suc, ◌^◌, ◌<◌, ◌≤◌, ◌&&◌, leb, ltb, List, [], ◌∷◌, Option, None, Some, Result, Ok, Err, option_and_then, Bool, true, false, cond, length, get_or, refl, ap, sym, ◌∙◌, arith}
+use Rattle.std.proofs.Common.{◌≡◌, ◌≢◌, ℕ, ◌^◌, ◌<◌, ◌≤◌, ◌&&◌, leb, ltb, List, [], ◌∷◌, Option, None, Some, Result, Ok, Err, option_and_then, Bool, true, false, cond, length, get_or, refl, ap, sym, ◌∙◌, arith}
 use Rattle.std.proofs.lemmas.Bool.{and_parts, leb-true, ltb-true, le-leb, lt-ltb}
 use Rattle.std.proofs.lemmas.Str.Parse.{IsNumeralModel, numerals_by_value, tells_all_ascii_digits, tells_by_index, parse_plain, not_in_digits}
 use Rattle.std.specs.Int.{IsInRange}
-use Rattle.std.specs.Result.{OkIff, result_ok}
+use Rattle.std.specs.Result.{result_ok}
 use Rattle.std.specs.Str.{all_ascii_digits}
 use Rattle.std.specs.Str.Parse.{ParsesUnsigned, digits_value}
 use Rattle.surw_base.specs.declared.limits.TheConstants.{DEPTH}

@@ -56,8 +56,8 @@ fn option<'a>(alloc: Global, id: &'a str) -> Arg<'a>
 
 // The texts that words give, where the command takes them.
 pub(crate) fn read_given<'a>(alloc: Global, words: &'a [String]) -> Result<Given<'a>, WordFault>
-    ensures given { IfOk result (λ given. IsGiven (map string_bytes words.entry.now) (given_by given)) }
-    ensures refused { IfErr result (λ fault. fault ≡ WordFault.Form → is_taken (map string_bytes words.entry.now) ≡ false) }
+    ensures given { IfOk result (λ given. IsGiven (map string_bytes words.now) (given_by given)) }
+    ensures refused { IfErr result (λ fault. fault ≡ WordFault.Form → is_taken (map string_bytes words.now) ≡ false) }
 {
     let command = match command(alloc) {
         Ok(command) => command,

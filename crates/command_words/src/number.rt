@@ -7,6 +7,9 @@ use surw_base::DEPTH;
 // The most digits of a number, leading zeros among them.
 const DIGITS: usize = 20;
 
+// The least depth.
+const LEAST: u64 = 1;
+
 // The number that a text writes. None exactly where it writes none.
 pub(crate) fn read_number(text: &str) -> Option<u64>
     ensures { result ≡ number_of text.now }
@@ -29,7 +32,7 @@ pub(crate) fn read_depth(text: &str) -> Option<u8>
     ensures { result ≡ depth_of text.now }
 {
     let number = read_number(text)?;
-    if number < 1 || number > DEPTH as u64 {
+    if number < LEAST || number > u64::from(DEPTH) {
         return None;
     }
     Some(number as u8)

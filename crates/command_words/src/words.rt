@@ -22,8 +22,8 @@ pub fn read_words<'a>(
     jobs: &[Job],
     words: &'a [String],
 ) -> Result<Ask<'a>, WordFault>
-    ensures ok { IfOk result (λ ask. AsksFor jobs.now (map string_bytes words.entry.now) (ask_by ask)) }
-    ensures form { IfErr result (λ fault. fault ≡ WordFault.Form → AsksForNothing jobs.now (map string_bytes words.entry.now)) }
+    ensures ok { IfOk result (λ ask. AsksFor jobs.now (map string_bytes words.now) (ask_by ask)) }
+    ensures form { IfErr result (λ fault. fault ≡ WordFault.Form → AsksForNothing jobs.now (map string_bytes words.now)) }
 {
     let given = read_given(alloc, words)?;
     ask_of(jobs, &given).ok_or(WordFault::Form)

@@ -1,4 +1,4 @@
-use Rattle.std.proofs.Common.{rules, ◌≡◌, ℕ, List, Option, Some, IsSome, ◌⊎◌, inl, inr, false, option_map, ap, sym}
+use Rattle.std.proofs.Common.{rules, ◌≡◌, Some, IsSome, ◌⊎◌, inl, inr, false}
 use Rattle.command_words.specs.Given.{given_by}
 use Rattle.command_words.specs.Job.{can_choose, can_seed}
 use Rattle.command_words.proofs.Asks.{chosen-none, seeded-none}

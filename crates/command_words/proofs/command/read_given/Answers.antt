@@ -1,4 +1,4 @@
-use Rattle.std.proofs.Common.{◌≡◌, ℕ, List, [], ◌∷◌, true, false, arith, ⊎_elim, ap, ◌∙◌, codes, refl, map, string_bytes, subst}
+use Rattle.std.proofs.Common.{◌≡◌, List, [], ◌∷◌, true, false, arith, ⊎_elim, ap, ◌∙◌, codes, refl, map, string_bytes, subst}
 use Rattle.clap.specs.Words.{App, IsAmong, Kinds, Text, found_of, fault_of, first_of, first_value, is_simple, is_simple_and_free, kind_of, matches_of}
 use Rattle.clap.specs.Walk.{is_empty}
 use Rattle.clap.specs.declared.error.ErrorKind.{ErrorKind}
