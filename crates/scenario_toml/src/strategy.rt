@@ -16,8 +16,8 @@ pub enum Strategy {
 }
 
 impl Strategy {
-    // The strategy of this name.
-    pub(crate) fn of(text: &[u8]) -> Option<Strategy>
+    /// The strategy of this name.
+    pub fn of(text: &[u8]) -> Option<Strategy>
         ensures { result ≡ strategy_of text.now }
     {
         match text {

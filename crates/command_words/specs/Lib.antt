@@ -1,0 +1,5 @@
+pub mod Ask
+pub mod Command
+pub mod Given
+pub mod Job
+pub mod Number
