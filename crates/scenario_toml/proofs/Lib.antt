@@ -1,4 +1,5 @@
 pub mod Items
+pub mod MadeThreads
 pub mod Trees
 pub mod UnknownKeys
 pub mod UnknownKinds

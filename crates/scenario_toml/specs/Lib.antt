@@ -8,6 +8,7 @@ pub mod FollowPlan
 pub mod Flusher
 pub mod Keys
 pub mod LogWriter
+pub mod Made
 pub mod Monitors
 pub mod Plan
 pub mod Rules
