@@ -1,0 +1,62 @@
+use crate::{Rounded, View};
+use atomic_table::{Join, Play, Split, TableRule};
+
+/// The rule of a turn table: what holds of its words, its slot and its seats after each step.
+pub struct TurnRule;
+
+impl<T: Rounded> TableRule<Option<T>, View, ()> for TurnRule {
+    ghost use Rattle.turn_table.specs.Rule.{Ruled, first_view};
+
+    ghost holds = { λ _. Ruled T.round_of T.granted_of };
+
+    ghost first = { λ _. first_view };
+}
+
+/// The load of the turn word. Where the word names the seat, the slot comes to it.
+pub struct Looks;
+
+impl<T: Rounded> Play<Option<T>, View> for Looks {
+    ghost use Rattle.turn_table.specs.Rule.{looked};
+
+    ghost then = { looked T.round_of T.granted_of };
+}
+
+/// The exchange of the turn word by which a turn is passed on.
+pub struct Passes;
+
+impl<T> Play<Option<T>, View> for Passes {
+    ghost use Rattle.turn_table.specs.Rule.{passed};
+
+    ghost then = { passed };
+}
+
+/// The step by which a seat gets its number.
+pub struct Numbers;
+
+impl<T> Play<Option<T>, View> for Numbers {
+    ghost use Rattle.turn_table.specs.Rule.{numbers};
+
+    ghost then = { numbers };
+}
+
+/// How a seat without a number is split off.
+pub struct Right;
+
+impl Split<View> for Right {
+    ghost use Rattle.turn_table.specs.Rule.{without_right, fresh};
+
+    ghost left = { without_right };
+
+    ghost right = { fresh };
+}
+
+/// How one seat takes in another.
+pub struct Takes;
+
+impl Join<View> for Takes {
+    ghost use Rattle.turn_table.specs.Rule.{joined, spent};
+
+    ghost both = { joined };
+
+    ghost spent = { spent };
+}
