@@ -39,3 +39,10 @@ AreFresh (s ∷ ss) = (rounds_of s.view ≡ []) × AreFresh ss
 abbrev pub given_to : ℕ → List SeatState → ℕ
 given_to k [] = 0
 given_to k (s ∷ ss) = times k (rounds_of s.view) + given_to k ss
+
+-- a seat rests again: of the same table, with its number and its right to number, and without a turn
+pub record RestsAgain (before after : SeatState) : Type 0 where
+  pub table : after.table ≡ before.table
+  pub number : after.view.number ≡ before.view.number
+  pub right : after.view.right ≡ before.view.right
+  pub rests : after.view.turn ≡ false
