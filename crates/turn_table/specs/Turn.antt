@@ -1,5 +1,5 @@
 -- What a look at the turn word tells a seat. The word is 32 * round + holder; the holder 31 means that no round follows.
-use Rattle.std.specs.Prelude.{◌≡◌, ◌≢◌, ℕ, ◌/◌, ◌%◌, ◌⊎◌, true, Option, Some}
+use Rattle.std.specs.Prelude.{◌≡◌, ◌≢◌, ℕ, ◌/◌, ◌%◌, true, Option, Some}
 use Rattle.turn_table.specs.declared.turn.Turn.{Turn}
 use Rattle.turn_table.specs.declared.view.View.{View}
 use Rattle.turn_table.specs.Count.{AreBelow}
@@ -23,11 +23,13 @@ pub record IsOthers (before after : View) : Type 0 where
 -- the word that was loaded says that no round follows, and nothing of the seat changed but the word
 pub record IsOver (before after : View) : Type 0 where
   pub over : after.word % 32 ≡ 31
+  pub unnamed : before.number ≢ Some (after.word % 32)
   pub seat : after ≡ seen before after.word
 
--- the word that was loaded names another thread, or says that no round follows
-abbrev pub IsNotMine : View → View → Type 0
-IsNotMine before after = IsOthers before after ⊎ IsOver before after
+-- the word that was loaded doesn't name the seat's thread, and nothing of the seat changed but the word
+pub record IsNotMine (before after : View) : Type 0 where
+  pub unnamed : before.number ≢ Some (after.word % 32)
+  pub seat : after ≡ seen before after.word
 
 -- the seat holds this turn
 pub record IsOutWith {T : Type 0} (seat : View) (turn : Turn T) : Type 0 where

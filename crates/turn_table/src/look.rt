@@ -22,7 +22,11 @@ impl<T: Rounded> TurnTable<T> {
         requires table { seat.old.table ≡ self.now.id }
         requires rests { seat.old.view.turn ≡ false }
         ensures table { seat.new.table ≡ seat.old.table }
-        ensures found { elim result [ Mine turn ↦ IsTurnOf T.round_of T.granted_of seat.old.view seat.new.view turn | Other ↦ IsOthers seat.old.view seat.new.view | Over ↦ IsOver seat.old.view seat.new.view ] }
+        ensures found { elim result [
+          | Mine turn ↦ IsTurnOf T.round_of T.granted_of seat.old.view seat.new.view turn
+          | Other ↦ IsOthers seat.old.view seat.new.view
+          | Over ↦ IsOver seat.old.view seat.new.view
+        ] }
     {
         let found = self.table.shared.load::<Looks>(&mut seat.seat, 0);
         let holder = found % 32;
@@ -49,8 +53,7 @@ impl<T: Rounded> TurnTable<T> {
     {
         match self.look(seat) {
             Look::Mine(turn) => Some(turn),
-            Look::Other => None,
-            Look::Over => None,
+            Look::Other | Look::Over => None,
         }
     }
 }

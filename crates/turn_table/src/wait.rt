@@ -24,7 +24,10 @@ impl<T: Rounded> TurnTable<T> {
         requires table { seat.old.table ≡ self.now.id }
         requires rests { seat.old.view.turn ≡ false }
         ensures table { seat.new.table ≡ seat.old.table }
-        ensures found { elim result [ Mine turn ↦ IsTurnOf T.round_of T.granted_of seat.old.view seat.new.view turn | Over ↦ IsOver seat.old.view seat.new.view ] }
+        ensures found { elim result [
+          | Mine turn ↦ IsTurnOf T.round_of T.granted_of seat.old.view seat.new.view turn
+          | Over ↦ IsOver seat.old.view seat.new.view
+        ] }
     {
         for _ in rt.forever() {
             match self.look(seat) {

@@ -1,4 +1,4 @@
-use Rattle.std.proofs.Common.{◌≡◌, ◌+◌, ◌<◌, ◌≤◌, false, true, None, ℕ, ◌-◌, ◌*◌, length}
+use Rattle.std.proofs.Common.{◌≡◌}
 use Rattle.turn_table.specs.Seat.{RestsAgain}
 use Rattle.turn_table.proofs.tests.work.Given as goal
 

@@ -1,4 +1,4 @@
-use Rattle.std.proofs.Common.{◌≡◌, ◌≢◌, ℕ, ◌+◌, ◌≤◌, None, false, length}
+use Rattle.std.proofs.Common.{◌≡◌, ℕ, ◌+◌, ◌≤◌, false}
 use Rattle.std.specs.Prelude.{vec_len}
 use Rattle.turn_table.specs.Count.{times, below}
 use Rattle.turn_table.specs.Rule.{numbers_of, rounds_of}

@@ -1,7 +1,7 @@
-use Rattle.std.proofs.Common.{rules, ◌≡◌, ℕ, Some, Option, List, [], ◌∷◌, ◌++◌, sym, ap, ◌∙◌, subst, arith}
+use Rattle.std.proofs.Common.{◌≡◌, Some, [], ◌∷◌, ◌++◌, sym, ap, ◌∙◌, subst}
 use Rattle.atomic_table.specs.Table.{opening}
 use Rattle.turn_table.specs.Rule.{Ruled, first_view}
-use Rattle.turn_table.proofs.Steps.{opens}
+use Rattle.turn_table.proofs.TableEnds.{opens}
 use Rattle.turn_table.proofs.table.TurnTable.new.Goals as goal
 
 pub new-requires : goal.new-requires

@@ -1,8 +1,7 @@
-use Rattle.std.proofs.Common.{◌≡◌, ℕ, ◌%◌, ◌/◌, List, [], ◌∷◌, Some, None, Option, true, false, Bool, refl, sym, ap, ◌∙◌, subst, arith, rules}
-use Rattle.turn_table.specs.declared.view.View.{View}
+use Rattle.std.proofs.Common.{◌≡◌, [], ◌∷◌, Some, None, sym, ap, ◌∙◌, arith}
 use Rattle.atomic_table.specs.Table.{rest}
 use Rattle.turn_table.specs.Seat.{hand_of}
-use Rattle.turn_table.proofs.Steps.{passes_as}
+use Rattle.turn_table.proofs.PassSteps.{passes-as}
 use Rattle.turn_table.proofs.table.TurnTable.pass.Goals as goal
 
 pub compare_exchange-requires : goal.compare_exchange-requires
@@ -18,7 +17,7 @@ compare_exchange-requires g c =
     let view = ap (λ m. m.0) x.3 in (
       x.0 ∙ ap (λ p. p.table) v ∙ r.table ∙ sym (ap (λ t. t.id) c.self.view_is),
       omega (arith, t.0),
-      passes_as g.T.Rounded.round_of g.T.Rounded.granted_of _ _ c.args.turn.round c.seat.inside.number c.holder_of-holder.result _ _ c.args.turn.state _ t.1 now
+      passes-as g.T.Rounded.round_of g.T.Rounded.granted_of _ _ c.args.turn.round c.seat.inside.number c.holder_of-holder.result _ _ c.args.turn.state _ t.1 now
           (ap (λ w. w.turn) view ∙ on) (ap (λ w. w.number) view ∙ i.0) (ap (λ w. w.last) view ∙ ap (λ p. p.view.last) v ∙ r.given.last) r.round (r.granted ∙ c.holder_of-holder.ensures.thread) c.holder_of-holder.ensures.small
           (omega (arith, c.from.ensures, c.from-2.ensures)) (omega (arith, c.from-3.ensures)),
     )

@@ -1,6 +1,6 @@
-use Rattle.std.proofs.Common.{◌≡◌, ◌≤◌, ◌+◌, [], Some, length}
+use Rattle.std.proofs.Common.{◌≡◌, ◌≤◌, [], Some}
 use Rattle.std.specs.Prelude.{vec_len, vec_capacity}
-use Rattle.turn_table.specs.Rule.{numbers_of, first_view, fresh}
+use Rattle.turn_table.specs.Rule.{first_view}
 use Rattle.turn_table.specs.Seat.{AreNumbered, AreFresh}
 use Rattle.turn_table.proofs.table.TurnTable.seat_all.Given as goal
 

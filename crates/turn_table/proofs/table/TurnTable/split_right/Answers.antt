@@ -1,5 +1,5 @@
-use Rattle.std.proofs.Common.{◌≡◌, [], ◌∷◌, Some, sym, ap, ◌∙◌, arith, rules}
-use Rattle.turn_table.proofs.Steps.{splits}
+use Rattle.std.proofs.Common.{sym, ap, ◌∙◌, arith}
+use Rattle.turn_table.proofs.SeatSteps.{splits}
 use Rattle.turn_table.proofs.table.TurnTable.split_right.Goals as goal
 
 pub split_seat-requires : goal.split_seat-requires

@@ -1,4 +1,4 @@
-use Rattle.std.proofs.Common.{◌≡◌, false}
+use Rattle.std.proofs.Common.{◌≡◌}
 use Rattle.turn_table.specs.Rule.{seen}
 use Rattle.turn_table.proofs.table.TurnTable.wait_turn.Given as goal
 
