@@ -18,8 +18,8 @@ pub use rounded::Rounded;
 pub use seat::TurnSeat;
 pub use table::TurnTable;
 pub use turn::Turn;
-// A crate can name a table in a contract only if its rule and what its seats know are exported.
-pub use rule::{Looks, Numbers, Passes, Right, Takes, TurnRule};
+// A crate can name a table in a contract only if the types of its fields are exported.
+pub use rule::TurnRule;
 pub use view::View;
 pub use wait::TurnAnswer;
 

@@ -13,7 +13,7 @@ impl<T: Rounded> TableRule<Option<T>, View, ()> for TurnRule {
 }
 
 /// The load of the turn word. Where the word names the seat, the slot comes to it.
-pub struct Looks;
+pub(crate) struct Looks;
 
 impl<T: Rounded> Play<Option<T>, View> for Looks {
     ghost use Rattle.turn_table.specs.Rule.{looked};
@@ -22,7 +22,7 @@ impl<T: Rounded> Play<Option<T>, View> for Looks {
 }
 
 /// The exchange of the turn word by which a turn is passed on.
-pub struct Passes;
+pub(crate) struct Passes;
 
 impl<T> Play<Option<T>, View> for Passes {
     ghost use Rattle.turn_table.specs.Rule.{passed};
@@ -31,7 +31,7 @@ impl<T> Play<Option<T>, View> for Passes {
 }
 
 /// The step by which a seat gets its number.
-pub struct Numbers;
+pub(crate) struct Numbers;
 
 impl<T> Play<Option<T>, View> for Numbers {
     ghost use Rattle.turn_table.specs.Rule.{numbers};
@@ -40,7 +40,7 @@ impl<T> Play<Option<T>, View> for Numbers {
 }
 
 /// How a seat without a number is split off.
-pub struct Right;
+pub(crate) struct Right;
 
 impl Split<View> for Right {
     ghost use Rattle.turn_table.specs.Rule.{without_right, fresh};
@@ -51,7 +51,7 @@ impl Split<View> for Right {
 }
 
 /// How one seat takes in another.
-pub struct Takes;
+pub(crate) struct Takes;
 
 impl Join<View> for Takes {
     ghost use Rattle.turn_table.specs.Rule.{joined, spent};
