@@ -64,7 +64,7 @@ fn play(
 {
     let round = turn.round();
     turn.state().next(to);
-    let to = turn.state.granted();
+    let to = turn.state().granted();
     table.pass(seat, turn, to);
     round
 }
