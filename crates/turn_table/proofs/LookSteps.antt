@@ -10,7 +10,7 @@ use lib.ListN.{get_elem?}
 use Rattle.atomic_table.specs.Table.{State, Me, step, Act, keeps, takes, homes_after, carried_after, Valid, Allows}
 use Rattle.turn_table.specs.declared.view.View.{View}
 use Rattle.turn_table.specs.Count.{AreBelow, bit, times, below}
-use Rattle.turn_table.specs.Rule.{thread_of, is_some, numbers_of, rounds_of, turns, Slot, Ruled, number_or, seen, given_turn, looked, Mine, NotMine}
+use Rattle.turn_table.specs.Rule.{thread_of, is_some, numbers_of, rounds_of, turns, Slot, Ruled, number_or, after_look, with_turn, IsLook, Mine, NotMine}
 use Rattle.turn_table.proofs.Totals.{total-set, total-here, total-some, times-append, below-out, below-more, round-back}
 use Rattle.turn_table.proofs.Views.{apart, bit-true, fits-set, some-number, thread-small}
 
@@ -20,7 +20,7 @@ module _ {T : Type 0} (round : T → ℕ) (granted : T → Option ℕ) where
 
   abbrev Goes : State (Option T) View → ℕ → View → List ℕ → Type 0
   Goes s id v ws = (w : View) × (a : Act (Option T)) × Valid s.homes [] a × R (record { words = slice_set ws 0 (slice_index ws 0); homes = homes_after s.homes [] a; views = slice_set s.views id w })
-      × looked round granted (step 1 0 0 0 none) (v, []) (slice_index ws 0) (w, carried_after [] a)
+      × IsLook round granted (step 1 0 0 0 none) (v, []) (slice_index ws 0) (w, carried_after [] a)
 
   -- the slot is out, and the seat that is named holds no turn: no
   not-out : (s : State (Option T) View) (k : R s) (id : ℕ) (v : View) → get_elem? s.views id ≡ some v → v.turn ≡ false → v.number ≡ Some k.h → turns s.views ≡ 1 → ⊥
@@ -39,7 +39,7 @@ module _ {T : Type 0} (round : T → ℕ) (granted : T → Option ℕ) where
 
       home : ((x : T) × (s.homes ≡ some (Some x) ∷ []) × (round x ≡ k.r) × (granted x ≡ thread_of k.h) × (turns s.views ≡ 0)) → Goes s id v ((32 * k.r + k.h) ∷ k.w ∷ [])
       home q =
-          let w : View = given_turn v n in
+          let w : View = with_turn v n in
           let back = round-back k.r k.h k.small in
           let views' = set s.views id w in
           let on : turns views' ≡ 1 = let t = total-set (λ (u : View). bit u.turn) s.views id v w at in let z : bit v.turn ≡ 0 = ap bit off in omega (arith, t, z, q.4) in
@@ -84,7 +84,7 @@ module _ {T : Type 0} (round : T → ℕ) (granted : T → Option ℕ) where
   other : (s : State (Option T) View) (k : R s) (id : ℕ) (v : View) (m : ℕ) → get_elem? s.views id ≡ some v → v.number ≡ Some m → k.h ≢ m → Goes s id v ((32 * k.r + k.h) ∷ k.w ∷ [])
   other s k id v m at num ne =
       let n : ℕ = 32 * k.r + k.h in
-      let w : View = seen v n in
+      let w : View = after_look v n in
       let back = round-back k.r k.h k.small in
       let views' = set s.views id w in
       let same : turns views' ≡ turns s.views = let t = total-set (λ (u : View). bit u.turn) s.views id v w at in omega (arith, t) in (
@@ -108,14 +108,14 @@ module _ {T : Type 0} (round : T → ℕ) (granted : T → Option ℕ) where
             (refl, refl),
       )
 
-  pub looks : (id : ℕ) (v : View) (n : ℕ) → v.turn ≡ false → v.number ≡ Some n → n < 31 → Allows R 1 id (v, []) 0 (λ x. x) (looked round granted (step 1 0 0 0 none) (v, []))
+  pub looks : (id : ℕ) (v : View) (n : ℕ) → v.turn ≡ false → v.number ≡ Some n → n < 31 → Allows R 1 id (v, []) 0 (λ x. x) (IsLook round granted (step 1 0 0 0 none) (v, []))
   looks id v n off num small s k len at fit =
       subst (Goes s id v) (sym k.words) (dite (ℕ_discrete k.h n) (λ e. named s k id v at off (num ∙ ap Some (sym e)) (omega arith)) (λ ne. other s k id v n at num ne))
 
   pub looks-as : (slots id n : ℕ) (me : Me (Option T) View) → slots ≡ 1 → me.1 ≡ [] → me.0.turn ≡ false → me.0.number ≡ Some n → n < 31
-      → Allows R slots id me 0 (λ x. x) (looked round granted (step slots 0 0 0 none) me)
+      → Allows R slots id me 0 (λ x. x) (IsLook round granted (step slots 0 0 0 none) me)
   looks-as slots id n me is none_held off num small =
-      subst (λ (p : ℕ × List (ℕ × Option T)). Allows R p.0 id (me.0, p.1) 0 (λ x. x) (looked round granted (step p.0 0 0 0 none) (me.0, p.1))) (λ i. (sym is i, sym none_held i)) (looks id me.0 n off num small)
+      subst (λ (p : ℕ × List (ℕ × Option T)). Allows R p.0 id (me.0, p.1) 0 (λ x. x) (IsLook round granted (step p.0 0 0 0 none) (me.0, p.1))) (λ i. (sym is i, sym none_held i)) (looks id me.0 n off num small)
 
   -- where the word names the seat, the load gave it the turn
   pub is-mine : (v : View) (n m : ℕ) (w : Me (Option T) View) → v.number ≡ Some m → n % 32 ≡ m → MatchBool (n % 32 == number_or v.number) (Mine round granted v n w) (NotMine v n w) → Mine round granted v n w

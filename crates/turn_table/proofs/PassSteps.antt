@@ -9,7 +9,7 @@ use prog.Atomic.{either}
 use Rattle.atomic_table.specs.Table.{State, Me, step, Act, gives, homes_after, carried_after, Valid, Allows}
 use Rattle.turn_table.specs.declared.view.View.{View}
 use Rattle.turn_table.specs.Count.{bit, times, below}
-use Rattle.turn_table.specs.Rule.{thread_of, is_some, numbers_of, rounds_of, turns, Ruled, ended, passed}
+use Rattle.turn_table.specs.Rule.{thread_of, is_some, numbers_of, rounds_of, turns, Ruled, after_pass, IsPass}
 use Rattle.turn_table.proofs.Totals.{total-set, total-here, total-two}
 use Rattle.turn_table.proofs.Views.{fits-set, some-number-injective}
 
@@ -20,12 +20,12 @@ module _ {T : Type 0} (round : T → ℕ) (granted : T → Option ℕ) where
   abbrev Ends : State (Option T) View → ℕ → View → T → ℕ → List ℕ → Type 0
   Ends s id v x new ws = (w : View) × (a : Act (Option T)) × Valid s.homes ((0, Some x) ∷ []) a
       × R (record { words = slice_set ws 0 new; homes = homes_after s.homes ((0, Some x) ∷ []) a; views = slice_set s.views id w })
-      × ((w ≡ ended v) × (carried_after ((0, Some x) ∷ []) a ≡ []))
+      × ((w ≡ after_pass v) × (carried_after ((0, Some x) ∷ []) a ≡ []))
 
   -- the holder gives the state back, of the next round
   ends : (s : State (Option T) View) (k : R s) (id : ℕ) (v : View) (x : T) (g : ℕ) → get_elem? s.views id ≡ some v → v.turn ≡ true → round x ≡ k.r + 1 → granted x ≡ thread_of g → g < 32 → Ends s id v x (32 * (k.r + 1) + g) ((32 * k.r + k.h) ∷ k.w ∷ [])
   ends s k id v x g at on next to small =
-      let w : View = ended v in
+      let w : View = after_pass v in
       let views' = set s.views id w in
       let mine : bit v.turn ≡ 1 = ap bit on in
       let some_on : 1 ≤ turns s.views = let t = total-here (λ (u : View). bit u.turn) s.views id v at in omega (arith, t, mine) in
@@ -59,20 +59,20 @@ module _ {T : Type 0} (round : T → ℕ) (granted : T → Option ℕ) where
       )
 
   pub passes : (id : ℕ) (v : View) (x : T) (q n g : ℕ) → v.turn ≡ true → v.number ≡ Some n → v.last ≡ q → round x ≡ q + 1 → granted x ≡ thread_of g → g < 32
-      → Allows R 1 id (v, (0, Some x) ∷ []) 0 (λ m. either (m == 32 * q + n) (32 * (q + 1) + g) m) (passed (step 1 0 (32 * q + n) (32 * (q + 1) + g) none) (v, (0, Some x) ∷ []))
+      → Allows R 1 id (v, (0, Some x) ∷ []) 0 (λ m. either (m == 32 * q + n) (32 * (q + 1) + g) m) (IsPass (step 1 0 (32 * q + n) (32 * (q + 1) + g) none) (v, (0, Some x) ∷ []))
   passes id v x q n g on num last next to small s k len at fit =
       let f = (k.fits id v at).holds on in
       let is_h : n ≡ k.h = some-number-injective (sym num ∙ f.0) in
       let is_r : q ≡ k.r = sym last ∙ f.1 in
       let P : List ℕ → Type 0 = λ ws. (w : View) × (a : Act (Option T)) × Valid s.homes ((0, Some x) ∷ []) a
       × R (record { words = slice_set ws 0 (either (slice_index ws 0 == 32 * q + n) (32 * (q + 1) + g) (slice_index ws 0)); homes = homes_after s.homes ((0, Some x) ∷ []) a; views = slice_set s.views id w })
-      × passed (step 1 0 (32 * q + n) (32 * (q + 1) + g) none) (v, (0, Some x) ∷ []) (slice_index ws 0) (w, carried_after ((0, Some x) ∷ []) a) in
+      × IsPass (step 1 0 (32 * q + n) (32 * (q + 1) + g) none) (v, (0, Some x) ∷ []) (slice_index ws 0) (w, carried_after ((0, Some x) ∷ []) a) in
       let e = ends s k id v x g at on (next ∙ ap (λ (y : ℕ). y + 1) is_r) to small in
       let old : 32 * k.r + k.h ≡ 32 * q + n = omega (arith, is_h, is_r) in
       let new : either ((32 * k.r + k.h) == 32 * q + n) (32 * (q + 1) + g) (32 * k.r + k.h) ≡ 32 * (k.r + 1) + g = ap (λ (b : Bool). either b (32 * (q + 1) + g) (32 * k.r + k.h)) (eq-eqb _ _ old) ∙ omega (arith, is_r) in
       subst P (sym k.words) (e.0, e.1, e.2, subst (λ (m : ℕ). R (record { words = m ∷ k.w ∷ []; homes = homes_after s.homes ((0, Some x) ∷ []) e.1; views = slice_set s.views id e.0 })) (sym new) e.3, (old, e.4.1, e.4.0))
 
   pub passes-as : (slots id q n g old new : ℕ) (x : T) (me : Me (Option T) View) → slots ≡ 1 → me.1 ≡ (0, Some x) ∷ [] → me.0.turn ≡ true → me.0.number ≡ Some n → me.0.last ≡ q → round x ≡ q + 1 → granted x ≡ thread_of g → g < 32
-      → old ≡ 32 * q + n → new ≡ 32 * (q + 1) + g → Allows R slots id me 0 (λ m. either (m == old) new m) (passed (step slots 0 old new none) me)
+      → old ≡ 32 * q + n → new ≡ 32 * (q + 1) + g → Allows R slots id me 0 (λ m. either (m == old) new m) (IsPass (step slots 0 old new none) me)
   passes-as slots id q n g old new x me is held on num last next to small is_old is_new =
-      subst (λ (p : (ℕ × List (ℕ × Option T)) × ℕ × ℕ). Allows R p.0.0 id (me.0, p.0.1) 0 (λ m. either (m == p.1) p.2 m) (passed (step p.0.0 0 p.1 p.2 none) (me.0, p.0.1))) (λ i. ((sym is i, sym held i), sym is_old i, sym is_new i)) (passes id me.0 x q n g on num last next to small)
+      subst (λ (p : (ℕ × List (ℕ × Option T)) × ℕ × ℕ). Allows R p.0.0 id (me.0, p.0.1) 0 (λ m. either (m == p.1) p.2 m) (IsPass (step p.0.0 0 p.1 p.2 none) (me.0, p.0.1))) (λ i. ((sym is i, sym held i), sym is_old i, sym is_new i)) (passes id me.0 x q n g on num last next to small)

@@ -3,7 +3,7 @@ use Rattle.std.proofs.Common.{◌≡◌, ℕ, ◌+◌, ◌<◌, ◌≤◌, nat_e
 use Rattle.turn_table.specs.declared.view.View.{View}
 use Rattle.atomic_table.specs.Seated.{TableId}
 use Rattle.turn_table.specs.Count.{times, bit, below}
-use Rattle.turn_table.specs.Rule.{numbers_of, rounds_of, own, joined}
+use Rattle.turn_table.specs.Rule.{numbers_of, rounds_of, own, joint_view}
 use Rattle.turn_table.proofs.Totals.{times-append, below-more, below-in, bit-same}
 use mathlib.Core.Logic.{dite}
 use native.Mathlib.Decide.{dec_le}
@@ -35,10 +35,10 @@ given-more k [] s = omega arith
 given-more k (x ∷ xs) s = let h = given-more k xs s in omega arith
 
 -- what one seat has after it took in another
-pub joined-rounds : (k : ℕ) (v u : View) → times k (rounds_of (joined v u)) ≡ times k (rounds_of v) + times k (rounds_of u)
+pub joined-rounds : (k : ℕ) (v u : View) → times k (rounds_of (joint_view v u)) ≡ times k (rounds_of v) + times k (rounds_of u)
 joined-rounds k v u = let a = times-append k v.rounds (v.given ++ rounds_of u) in let b = times-append k v.given (rounds_of u) in let c = times-append k v.rounds v.given in omega (arith, a, b, c)
 
-pub joined-numbers : (k : ℕ) (v u : View) → times k (numbers_of (joined v u)) ≡ times k (numbers_of v) + times k (numbers_of u)
+pub joined-numbers : (k : ℕ) (v u : View) → times k (numbers_of (joint_view v u)) ≡ times k (numbers_of v) + times k (numbers_of u)
 joined-numbers k v u = let a = times-append k (own v.number) (v.numbers ++ numbers_of u) in let b = times-append k v.numbers (numbers_of u) in let c = times-append k (own v.number) v.numbers in omega (arith, a, b, c)
 
 pub some-of : (o : Option ℕ) → (o ≡ None → ⊥) → (n : ℕ) × (o ≡ Some n)

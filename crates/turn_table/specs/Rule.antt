@@ -72,48 +72,48 @@ abbrev pub first_view : View
 first_view = record { number = None; numbers = []; rounds = []; given = []; last = 0; turn = false; word = 0; right = Some 0 }
 
 -- a seat that has loaded the turn word n
-abbrev pub seen : View → ℕ → View
-seen v n = record v { word = n }
+abbrev pub after_look : View → ℕ → View
+after_look v n = record v { word = n }
 
 -- a seat that has loaded the turn word n, and was given its round
-abbrev pub given_turn : View → ℕ → View
-given_turn v n = record v { word = n; rounds = v.rounds ++ n / 32 ∷ []; last = n / 32; turn = true }
+abbrev pub with_turn : View → ℕ → View
+with_turn v n = record v { word = n; rounds = v.rounds ++ n / 32 ∷ []; last = n / 32; turn = true }
 
 -- where the word names the seat, the slot comes to it, with the state of the word's round
 abbrev pub Mine : {T : Type 0} → (T → ℕ) → (T → Option ℕ) → View → ℕ → Me (Option T) View → Type 0
-Mine {T} round granted v n w = (x : T) × (w.1 ≡ (0, Some x) ∷ []) × (round x ≡ n / 32) × (granted x ≡ v.number) × (w.0 ≡ given_turn v n) × AreBelow (n / 32) v.rounds
+Mine {T} round granted v n w = (x : T) × (w.1 ≡ (0, Some x) ∷ []) × (round x ≡ n / 32) × (granted x ≡ v.number) × (w.0 ≡ with_turn v n) × AreBelow (n / 32) v.rounds
 
 -- elsewhere only the word is noted
 abbrev pub NotMine : {T : Type 0} → View → ℕ → Me (Option T) View → Type 0
-NotMine {T} v n w = (w.1 ≡ []) × (w.0 ≡ seen v n)
+NotMine {T} v n w = (w.1 ≡ []) × (w.0 ≡ after_look v n)
 
 -- the load of the turn word n
-abbrev pub looked : {T : Type 0} → (T → ℕ) → (T → Option ℕ) → Step (Option T) → Me (Option T) View → ℕ → Me (Option T) View → Type 0
-looked {T} round granted s v n w = MatchBool (n % 32 == number_or v.0.number) (Mine round granted v.0 n w) (NotMine v.0 n w)
+abbrev pub IsLook : {T : Type 0} → (T → ℕ) → (T → Option ℕ) → Step (Option T) → Me (Option T) View → ℕ → Me (Option T) View → Type 0
+IsLook {T} round granted s v n w = MatchBool (n % 32 == number_or v.0.number) (Mine round granted v.0 n w) (NotMine v.0 n w)
 
 -- a seat that has passed its turn on
-abbrev pub ended : View → View
-ended v = record v { turn = false }
+abbrev pub after_pass : View → View
+after_pass v = record v { turn = false }
 
 -- the exchange that passes a turn on: the word was the expected one, and the slot goes home
-abbrev pub passed : {T : Type 0} → Step (Option T) → Me (Option T) View → ℕ → Me (Option T) View → Type 0
-passed {T} s v n w = (n ≡ s.first) × (w.1 ≡ []) × (w.0 ≡ ended v.0)
+abbrev pub IsPass : {T : Type 0} → Step (Option T) → Me (Option T) View → ℕ → Me (Option T) View → Type 0
+IsPass {T} s v n w = (n ≡ s.first) × (w.1 ≡ []) × (w.0 ≡ after_pass v.0)
 
 -- a seat that has got number n, and the right to the next
-abbrev pub numbered : View → ℕ → View
-numbered v n = record v { number = Some n; right = Some (n + 1) }
+abbrev pub with_number : View → ℕ → View
+with_number v n = record v { number = Some n; right = Some (n + 1) }
 
 -- the step that gives a seat its number: it is the next one
-abbrev pub numbers : {T : Type 0} → Step (Option T) → Me (Option T) View → ℕ → Me (Option T) View → Type 0
-numbers {T} s v n w = (v.0.right ≡ Some n) × (w.1 ≡ []) × (w.0 ≡ numbered v.0 n)
+abbrev pub IsNumbering : {T : Type 0} → Step (Option T) → Me (Option T) View → ℕ → Me (Option T) View → Type 0
+IsNumbering {T} s v n w = (v.0.right ≡ Some n) × (w.1 ≡ []) × (w.0 ≡ with_number v.0 n)
 
 -- a seat that has given the right to number away
 abbrev pub without_right : View → View
 without_right v = record v { right = None }
 
 -- the new seat that has it
-abbrev pub fresh : View → View
-fresh v = record first_view { right = v.right }
+abbrev pub fresh_view : View → View
+fresh_view v = record first_view { right = v.right }
 
 -- the right to number of one of two seats
 abbrev pub either_right : Option ℕ → Option ℕ → Option ℕ
@@ -121,9 +121,9 @@ either_right None b = b
 either_right (Some n) b = Some n
 
 -- a seat that has taken in another
-abbrev pub joined : View → View → View
-joined v u = record v { numbers = v.numbers ++ numbers_of u; given = v.given ++ rounds_of u; right = either_right v.right u.right }
+abbrev pub joint_view : View → View → View
+joint_view v u = record v { numbers = v.numbers ++ numbers_of u; given = v.given ++ rounds_of u; right = either_right v.right u.right }
 
 -- the one that was taken in
-abbrev pub spent : View
-spent = record first_view { right = None }
+abbrev pub spent_view : View
+spent_view = record first_view { right = None }

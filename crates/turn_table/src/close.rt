@@ -49,8 +49,10 @@ impl<T: Rounded> TurnTable<T> {
         requires seats { AreNumbered self.now.id 0 seats.items }
         ensures table { result.table_id ≡ main.table_id }
         ensures main { (result.me.0.turn ≡ false) × (result.me.0.right ≡ main.me.0.right) }
-        ensures numbers { (k : ℕ) → times k (numbers_of main.me.0) + below k (vec_len seats) ≤ times k (numbers_of result.me.0) }
-        ensures rounds { (k : ℕ) → times k (rounds_of result.me.0) ≡ times k (rounds_of main.me.0) + given_to k seats.items }
+        ensures numbers { (k : ℕ) →
+            times k (numbers_of main.me.0) + below k (vec_len seats) ≤ times k (numbers_of result.me.0) }
+        ensures rounds { (k : ℕ) →
+            times k (rounds_of result.me.0) ≡ times k (rounds_of main.me.0) + given_to k seats.items }
     {
         let mut main = main;
         while let Some(next) = seats.pop() {

@@ -1,6 +1,6 @@
 ghost use Rattle.std.specs.Prelude.{◌≡◌, ◌+◌, ◌<◌};
-ghost use Rattle.turn_table.specs.Rule.{thread_of, ended};
-ghost use Rattle.turn_table.specs.Turn.{IsOutWith};
+ghost use Rattle.turn_table.specs.Rule.{thread_of, after_pass};
+ghost use Rattle.turn_table.specs.Turn.{HoldsTurn};
 
 use crate::rule::Passes;
 use crate::{Rounded, Turn, TurnSeat, TurnTable};
@@ -11,11 +11,11 @@ impl<T: Rounded> TurnTable<T> {
     /// all. The state has had one round more than at the turn's begin.
     pub fn pass(&self, seat: &mut TurnSeat<T>, turn: Turn<T>, to: Option<ThreadNo>)
         requires table { seat.old.table ≡ self.now.id }
-        requires given { IsOutWith seat.old.view turn }
+        requires given { HoldsTurn seat.old.view turn }
         requires round { T.round_of turn.state ≡ turn.round + 1 }
         requires granted { T.granted_of turn.state ≡ to }
         ensures table { seat.new.table ≡ seat.old.table }
-        ensures ended { seat.new.view ≡ ended seat.old.view }
+        ensures rests { seat.new.view ≡ after_pass seat.old.view }
     {
         let Turn { state, round } = turn;
         let holder = holder_of(to);

@@ -16,47 +16,47 @@ impl<T: Rounded> TableRule<Option<T>, View, ()> for TurnRule {
 pub(crate) struct Looks;
 
 impl<T: Rounded> Play<Option<T>, View> for Looks {
-    ghost use Rattle.turn_table.specs.Rule.{looked};
+    ghost use Rattle.turn_table.specs.Rule.{IsLook};
 
-    ghost then = { looked T.round_of T.granted_of };
+    ghost then = { IsLook T.round_of T.granted_of };
 }
 
 /// The exchange of the turn word by which a turn is passed on.
 pub(crate) struct Passes;
 
 impl<T> Play<Option<T>, View> for Passes {
-    ghost use Rattle.turn_table.specs.Rule.{passed};
+    ghost use Rattle.turn_table.specs.Rule.{IsPass};
 
-    ghost then = { passed };
+    ghost then = { IsPass };
 }
 
 /// The step by which a seat gets its number.
 pub(crate) struct Numbers;
 
 impl<T> Play<Option<T>, View> for Numbers {
-    ghost use Rattle.turn_table.specs.Rule.{numbers};
+    ghost use Rattle.turn_table.specs.Rule.{IsNumbering};
 
-    ghost then = { numbers };
+    ghost then = { IsNumbering };
 }
 
 /// How a seat without a number is split off.
 pub(crate) struct Right;
 
 impl Split<View> for Right {
-    ghost use Rattle.turn_table.specs.Rule.{without_right, fresh};
+    ghost use Rattle.turn_table.specs.Rule.{without_right, fresh_view};
 
     ghost left = { without_right };
 
-    ghost right = { fresh };
+    ghost right = { fresh_view };
 }
 
 /// How one seat takes in another.
 pub(crate) struct Takes;
 
 impl Join<View> for Takes {
-    ghost use Rattle.turn_table.specs.Rule.{joined, spent};
+    ghost use Rattle.turn_table.specs.Rule.{joint_view, spent_view};
 
-    ghost both = { joined };
+    ghost both = { joint_view };
 
-    ghost spent = { spent };
+    ghost spent = { spent_view };
 }

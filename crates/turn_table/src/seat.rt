@@ -20,7 +20,9 @@ impl<T: Rounded> Model for TurnSeat<T> {
 
     ghost view = { λ s. record { table = s.seat.table_id; view = s.seat.me.0 } };
 
-    ghost invariant = { λ s. (s.seat.me.0.number ≡ Some s.number) × (s.number < 31) × (s.seat.me.1 ≡ hand_of s.seat.me.0.turn) };
+    ghost invariant = { λ s. (s.seat.me.0.number ≡ Some s.number)
+        × (s.number < 31)
+        × (s.seat.me.1 ≡ hand_of s.seat.me.0.turn) };
 }
 
 impl<T: Rounded> TurnSeat<T> {

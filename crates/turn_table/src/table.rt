@@ -1,6 +1,6 @@
 ghost use Rattle.std.specs.Prelude.{◌≡◌, ◌<◌, ◌≤◌, Some, IfOk, vec_len, vec_capacity, []};
 ghost use Rattle.surw_base.specs.declared.limits.TheConstants.{THREADS};
-ghost use Rattle.turn_table.specs.Rule.{first_view, numbers_of, numbered, without_right, fresh};
+ghost use Rattle.turn_table.specs.Rule.{first_view, numbers_of, with_number, without_right, fresh_view};
 ghost use Rattle.turn_table.specs.Seat.{SeatsFrom, AreFresh};
 
 use crate::pass::holder_of;
@@ -29,7 +29,8 @@ impl<T: Rounded> Model for TurnTable<T> {
 
     ghost view = { λ t. record { id = t.table.shared.table_id; seats = t.seats } };
 
-    ghost invariant = { λ t. (t.table.shared.table_id.words ≡ 2) × (t.table.shared.table_id.slots ≡ 1) };
+    ghost invariant = { λ t. (t.table.shared.table_id.words ≡ 2)
+        × (t.table.shared.table_id.slots ≡ 1) };
 }
 
 impl<T: Rounded> TurnTable<T> {
@@ -96,7 +97,7 @@ impl<T: Rounded> TurnTable<T> {
         requires seat { (seat.old.me.1 ≡ []) × (numbers_of seat.old.me.0 ≡ []) }
         requires right { (seat.old.me.0.right ≡ Some number) × (number < 31) }
         ensures table { seat.new.table_id ≡ seat.old.table_id }
-        ensures seat { (seat.new.me.1 ≡ []) × (seat.new.me.0 ≡ numbered seat.old.me.0 number) }
+        ensures seat { (seat.new.me.1 ≡ []) × (seat.new.me.0 ≡ with_number seat.old.me.0 number) }
     {
         self.table.shared.fetch_add::<Numbers>(seat, 1, 1);
     }
@@ -106,7 +107,7 @@ impl<T: Rounded> TurnTable<T> {
         requires { seat.old.table_id ≡ self.now.id }
         ensures table { (seat.new.table_id ≡ seat.old.table_id) × (result.table_id ≡ seat.old.table_id) }
         ensures seat { seat.new.me ≡ (without_right seat.old.me.0, seat.old.me.1) }
-        ensures made { result.me ≡ (fresh seat.old.me.0, []) }
+        ensures made { result.me ≡ (fresh_view seat.old.me.0, []) }
     {
         self.table.shared.split_seat::<Right>(seat)
     }

@@ -1,7 +1,7 @@
 ghost use Rattle.std.specs.Prelude.{◌≡◌, ◌+◌, ◌<◌, ◌≤◌, false, true, None};
 ghost use Rattle.turn_table.specs.Seat.{RestsAgain};
-ghost use Rattle.turn_table.specs.Rule.{ended};
-ghost use Rattle.turn_table.specs.Turn.{IsOutWith};
+ghost use Rattle.turn_table.specs.Rule.{after_pass};
+ghost use Rattle.turn_table.specs.Turn.{HoldsTurn};
 
 use super::*;
 use std::sync::Wait;
@@ -57,10 +57,10 @@ fn play(
     to: Option<ThreadNo>,
 ) -> u32
     requires table { seat.old.table ≡ table.now.id }
-    requires given { IsOutWith seat.old.view turn }
+    requires given { HoldsTurn seat.old.view turn }
     requires round { (turn.state.round ≡ turn.round) × (0 < turn.state.left) }
     ensures table { seat.new.table ≡ seat.old.table }
-    ensures ended { seat.new.view ≡ ended seat.old.view }
+    ensures rests { seat.new.view ≡ after_pass seat.old.view }
 {
     let round = turn.round();
     turn.state().next(to);

@@ -1,7 +1,7 @@
 use Rattle.std.proofs.Common.{◌≡◌, ◌+◌, Some, [], ◌∷◌, ◌++◌, length, sym, ap, ◌∙◌, subst, arith, length-append}
 use Rattle.std.specs.Prelude.{vec_len}
 use Rattle.turn_table.specs.Count.{times, below}
-use Rattle.turn_table.specs.Rule.{numbers_of, rounds_of, joined, either_right}
+use Rattle.turn_table.specs.Rule.{numbers_of, rounds_of, joint_view, either_right}
 use Rattle.turn_table.specs.Seat.{hand_of, AreNumbered, given_to}
 use Rattle.turn_table.specs.declared.view.View.{View}
 use Rattle.turn_table.proofs.SeatSteps.{joins}
@@ -28,7 +28,7 @@ loop-next-preserved g c =
     let last = numbered-less _ 0 c.pop.new.self.items c.in-Some.next all in
     let u : View = c.next.inside.seat.me.0 in
     let same : u ≡ c.in-Some.next.view = ap (λ p. p.view) c.next.view_is in
-    let now : c.join_seat.new.seat.me.0 ≡ joined c.loop-next.main.me.0 u = ap (λ m. m.0) j.2 in
+    let now : c.join_seat.new.seat.me.0 ≡ joint_view c.loop-next.main.me.0 u = ap (λ m. m.0) j.2 in
     let len : vec_len c.loop-next.seats ≡ vec_len c.pop.new.self + 1 = omega (arith, ap length c.in-Some.ensures.items, length-append c.pop.new.self.items (c.in-Some.next ∷ []), c.loop-next.seats.ok, c.pop.new.self.ok) in (
       j.0 ∙ i.0,
       ap (λ w. w.number) now ∙ i.1,
