@@ -1,8 +1,6 @@
 -- How a call ends whose words aren't read.
-use Rattle.std.proofs.Common.{◌≡◌, ◌⊎◌, ℕ, List, [], true, false, Result, Ok, Err, inl, inr, refl, sym, subst, ◌∙◌}
-use Rattle.clap.proofs.OnLiterals.{clap_on_literals}
+use Rattle.std.proofs.Common.{◌≡◌, ◌⊎◌, ℕ, List, Result, Err, inl, inr, refl}
 use Rattle.command_words.specs.Ask.{Ask, AsksFor, AsksForNothing}
-use Rattle.command_words.specs.Command.{is_taken, surw_app}
 use Rattle.command_words.specs.declared.job.Job.{Job}
 use Rattle.command_words.specs.declared.words.WordFault.{WordFault}
 use Rattle.command_words.specs.declared.words.WordFault.TheVariants.{Form}
@@ -39,12 +37,3 @@ pub words-opened : (jobs : List Job) (words : List (List ℕ)) (ask : Ask) (faul
     → now ≡ before → OpensFor ask.job before now ⊎ WasUnread before now status
 words-opened jobs words ask Form report status before now none asked is memory opens = absurd (none refl ask asked)
 words-opened jobs words ask words.OutOfMemory report status before now none asked is memory opens = inr (memory is, opens)
-
--- no words are not taken
-not-taken : is_taken [] ≡ false
-unfolding is_taken surw_app clap_on_literals
-not-taken = refl
-
--- so they ask for nothing
-pub no-words : (jobs : List Job) → AsksForNothing jobs []
-no-words jobs ask asked = cc (sym asked.taken ∙ not-taken)
