@@ -40,11 +40,7 @@ use surw_io::Shelf;
 
 /// The report of what is asked for, made on the caller's own thread. A run is made there too, which gives the same
 /// report.
-pub(crate) fn report_of<F: Shelf>(
-    alloc: Global,
-    ask: &Ask,
-    shelf: &mut F,
-) -> Result<Report, Stop>
+pub(crate) fn report_of<F: Shelf>(alloc: Global, ask: &Ask, shelf: &mut F) -> Result<Report, Stop>
     requires { HasDepth ask.now.choice }
     ensures comes { ComesTo
         (IsAskAnswer (ask_by ask.now) (record { first = F.coming shelf.old; second = F.coming_after shelf.old }))

@@ -15,7 +15,11 @@ use std::alloc::Global;
 
 /// The report of the job `profile` over the bytes of its file: the profile of its scenario, by the seed that is
 /// chosen, if one is.
-pub(crate) fn report_of_profile(alloc: Global, choice: &Choice, bytes: &[u8]) -> Result<Report, Stop>
+pub(crate) fn report_of_profile(
+    alloc: Global,
+    choice: &Choice,
+    bytes: &[u8],
+) -> Result<Report, Stop>
     ensures report { IfOk result (λ report. profile_answer choice.now bytes.now (report_answer report)) }
     ensures stopped { IfErr result (IsStopOf (profile_answer choice.now bytes.now)) }
 {

@@ -1,5 +1,6 @@
-use Rattle.std.proofs.Common.{Err, List, Result, ℕ, ap, inl, map, string_bytes, subst, sym, ◌≡◌}
+use Rattle.std.proofs.Common.{Err, List, Result, ℕ, ap, inl, map, rules, string_bytes, subst, sym, ◌≡◌}
 use Rattle.command_words.specs.Ask.{ask_by}
+use Rattle.scenario_toml.specs.Chosen.{HasDepth}
 use Rattle.surw_cli.specs.CommandAnswer.{Files, IsAnswer, IsAskAnswer, OfJob}
 use Rattle.surw_cli.specs.Ending.{Call}
 use Rattle.surw_cli.specs.Jobs.{all_jobs}
@@ -12,7 +13,9 @@ use Rattle.surw_cli.proofs.WordStops.{words-opened, words-status, words-stop}
 use Rattle.surw_cli.proofs.top.surw.Goals as goal
 
 pub report_on_threads-report-requires : goal.report_on_threads-report-requires
-report_on_threads-report-requires g c = has-depth all_jobs (map string_bytes c.args.words.now) (ask_by c.in-Ok.ask) c.in-Ok.ensures.ok
+report_on_threads-report-requires g c =
+    let depth : HasDepth c.in-Ok.ask.choice = has-depth all_jobs (map string_bytes c.args.words.now) (ask_by c.in-Ok.ask) c.in-Ok.ensures.ok in
+    search rules
 
 pub returns-in-Ok-clause-ends : goal.returns-in-Ok-clause-ends
 returns-in-Ok-clause-ends g c =
@@ -48,6 +51,12 @@ returns-in-Ok-clause-opened g c ask asked =
     inl
     (opens-for all_jobs (map string_bytes c.args.words.now) (ask_by c.in-Ok.ask) ask _ _ _ c.in-Ok.ensures.ok asked c.report_on_threads-report.ensures.opened
     c.tell.ensures.opens)
+
+pub returns-in-Ok-clause-unasked : goal.returns-in-Ok-clause-unasked
+returns-in-Ok-clause-unasked g c = λ none. absurd (none (ask_by c.in-Ok.ask) c.in-Ok.ensures.ok)
+
+pub returns-in-Ok-clause-unopened : goal.returns-in-Ok-clause-unopened
+returns-in-Ok-clause-unopened g c = λ none. absurd (none (ask_by c.in-Ok.ask) c.in-Ok.ensures.ok)
 
 pub returns-in-Err-clause-ends : goal.returns-in-Err-clause-ends
 returns-in-Err-clause-ends g c =

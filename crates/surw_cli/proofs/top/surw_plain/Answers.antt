@@ -49,6 +49,12 @@ returns-in-Ok-clause-opened g c ask asked =
     (opens-for plain_jobs (map string_bytes c.args.words.now) (ask_by c.in-Ok.ask) ask _ _ _ c.in-Ok.ensures.ok asked c.report_of-report.ensures.opened
     c.tell.ensures.opens)
 
+pub returns-in-Ok-clause-unasked : goal.returns-in-Ok-clause-unasked
+returns-in-Ok-clause-unasked g c = λ none. absurd (none (ask_by c.in-Ok.ask) c.in-Ok.ensures.ok)
+
+pub returns-in-Ok-clause-unopened : goal.returns-in-Ok-clause-unopened
+returns-in-Ok-clause-unopened g c = λ none. absurd (none (ask_by c.in-Ok.ask) c.in-Ok.ensures.ok)
+
 pub returns-in-Err-clause-ends : goal.returns-in-Err-clause-ends
 returns-in-Err-clause-ends g c =
     let words = map string_bytes c.args.words.now in
