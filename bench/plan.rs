@@ -26,7 +26,7 @@ use cache::Cache;
 use draws::{Draws, Streams, Tapes};
 use log::Log;
 use reading::read;
-use report::report;
+use report::{push_steps, push_summary, report};
 use routines::Routine;
 use run::{profile, run};
 use saved::{hex, read_saved, write, Asked};
@@ -209,6 +209,7 @@ fn main() {
         ["plan", file] => plan(file, None),
         ["plan", file, "--save", path] => plan(file, Some(path)),
         ["check", saved] => check(saved),
+        ["make", number] => make(number),
         ["replay", file, saved] => replay(file, saved),
         _ => exit(2),
     }
@@ -258,6 +259,25 @@ fn plan(file: &str, save: Option<&str>) {
         std::fs::write(path, write(&sha256(&bytes), &run.journal)).unwrap();
     }
     tell(&run, &scenario);
+}
+
+// The run of the scenario that a number makes, without its steps but with their digest.
+fn make(number: &str) {
+    let number: u64 = number.parse().unwrap_or_else(|_| exit(2));
+    let mut text = String::from("strategy = \"surw\"\nselect = [\"cell 0\"]\nmax_steps = 65536\n[world]\ncells = 8\n");
+    for thread in 0..16 {
+        let (a, b) = ((number % 8 + thread) % 8, (number % 8 + 3 * thread) % 8);
+        text += &format!("[[thread]]\nkind = \"steps\"\ntimes = 1250\nlines = [\"load {a} -> r0\", \"plus r0 1\", \"store {a} r0\", \"add {b} 1\"]\n");
+    }
+    let scenario = Scenario { seed: number, ..scenario_of(text.as_bytes()) };
+    let counts = profile(&scenario).unwrap_or_else(|_| exit(3));
+    let run = run_of(&scenario, &counts, &mut Streams::of_run(scenario.seed, scenario.strategy));
+    let mut steps = Vec::with_capacity(40 * run.journal.len());
+    push_steps(&mut steps, &run);
+    let mut out = Vec::with_capacity(1024 + 4 * run.journal.len());
+    push_summary(&mut out, &run, &scenario.monitors);
+    out.extend_from_slice(format!("journal {}\n", hex(&sha256(&steps))).as_bytes());
+    print(&out);
 }
 
 fn check(file: &str) {

@@ -67,72 +67,79 @@ pub fn push_event(out: &mut Vec<u8>, event: &Event) {
 #[inline(never)]
 pub fn report(run: &Run, monitors: &[Monitor]) -> Vec<u8> {
     let mut out = Vec::with_capacity(1024 + 40 * run.journal.len());
+    push_summary(&mut out, run, monitors);
+    push_steps(&mut out, run);
+    out
+}
+
+// Appends the lines of a run but those of its steps.
+pub fn push_summary(out: &mut Vec<u8>, run: &Run, monitors: &[Monitor]) {
     let step = run.journal.len() as u64;
     match run.verdict {
         Verdict::Ended => out.extend_from_slice(b"verdict ended\n"),
-        Verdict::Deadlock => push_list(&mut out, "verdict deadlock", [step]),
+        Verdict::Deadlock => push_list(out, "verdict deadlock", [step]),
         Verdict::WrongCount { thread, counted, seen } => {
-            push_list(&mut out, "verdict wrong_count", [step, thread as u64, counted, seen]);
+            push_list(out, "verdict wrong_count", [step, thread as u64, counted, seen]);
         }
         Verdict::Short { place } => {
             out.extend_from_slice(b"verdict draw ");
-            push_number(&mut out, step);
-            push_list(&mut out, " short", [place as u64]);
+            push_number(out, step);
+            push_list(out, " short", [place as u64]);
         }
         Verdict::Large { place, kept, below } => {
             out.extend_from_slice(b"verdict draw ");
-            push_number(&mut out, step);
-            push_list(&mut out, " large", [place as u64, kept, below]);
+            push_number(out, step);
+            push_list(out, " large", [place as u64, kept, below]);
         }
-        Verdict::StepLimit => push_list(&mut out, "verdict step_limit", [step]),
+        Verdict::StepLimit => push_list(out, "verdict step_limit", [step]),
         Verdict::Asked { asked, announced } => {
-            push_list(&mut out, "verdict asked", [step, u64::from(asked.thread)]);
+            push_list(out, "verdict asked", [step, u64::from(asked.thread)]);
             out.pop();
             out.push(b' ');
-            push_event(&mut out, &asked.event);
+            push_event(out, &asked.event);
             out.extend_from_slice(b"; announced ");
             match announced {
-                Some(event) => push_event(&mut out, &event),
+                Some(event) => push_event(out, &event),
                 None => out.extend_from_slice(b"nothing"),
             }
             out.push(b'\n');
         }
-        Verdict::Left { thread } => push_list(&mut out, "verdict left", [step, thread as u64]),
+        Verdict::Left { thread } => push_list(out, "verdict left", [step, thread as u64]),
     }
     let selected = run.journal.iter().filter(|entry| entry.chosen).count();
     let switches = run.journal.windows(2).filter(|pair| pair[0].thread != pair[1].thread).count();
-    push_list(&mut out, "steps", [step]);
-    push_list(&mut out, "selected", [selected as u64]);
-    push_list(&mut out, "forced", [run.journal.iter().filter(|entry| entry.forced).count() as u64]);
-    push_list(&mut out, "bent", [run.bent]);
-    push_list(&mut out, "switches", [switches as u64]);
+    push_list(out, "steps", [step]);
+    push_list(out, "selected", [selected as u64]);
+    push_list(out, "forced", [run.journal.iter().filter(|entry| entry.forced).count() as u64]);
+    push_list(out, "bent", [run.bent]);
+    push_list(out, "switches", [switches as u64]);
     let order = run.journal.iter().filter(|entry| entry.chosen).map(|entry| u64::from(entry.thread));
-    push_list(&mut out, "order", order);
+    push_list(out, "order", order);
     for (thread, event) in run.announced.iter().enumerate() {
         if let Some(event) = event {
             out.extend_from_slice(b"next ");
-            push_number(&mut out, thread as u64);
+            push_number(out, thread as u64);
             out.push(b' ');
-            push_event(&mut out, event);
+            push_event(out, event);
             out.push(b'\n');
         }
     }
-    push_list(&mut out, "cells", run.cells.iter().copied());
-    push_options(&mut out, "locks", run.holders.iter().map(|holder| holder.map(|thread| thread as u64)));
-    push_list(&mut out, "free", run.cache.free());
-    push_frames(&mut out, "clean", run.cache.clean());
-    push_frames(&mut out, "dirty", run.cache.dirty());
+    push_list(out, "cells", run.cells.iter().copied());
+    push_options(out, "locks", run.holders.iter().map(|holder| holder.map(|thread| thread as u64)));
+    push_list(out, "free", run.cache.free());
+    push_frames(out, "clean", run.cache.clean());
+    push_frames(out, "dirty", run.cache.dirty());
     out.extend_from_slice(b"pages");
     for (value, stamp) in &run.cache.disk {
         out.push(b' ');
-        push_number(&mut out, *value);
+        push_number(out, *value);
         out.push(b'/');
-        push_number(&mut out, *stamp);
+        push_number(out, *stamp);
     }
     out.push(b'\n');
-    push_options(&mut out, "slots", run.log.reserved.iter().copied());
-    push_list(&mut out, "mark", [run.log.mark]);
-    push_list(&mut out, "checks", [run.checks]);
+    push_options(out, "slots", run.log.reserved.iter().copied());
+    push_list(out, "mark", [run.log.mark]);
+    push_list(out, "checks", [run.checks]);
     for (monitor, failed) in monitors.iter().zip(&run.failed) {
         out.extend_from_slice(b"monitor ");
         let mut judged = true;
@@ -142,31 +149,34 @@ pub fn report(run: &Run, monitors: &[Monitor]) -> Vec<u8> {
             Monitor::Expect => out.extend_from_slice(b"expect"),
             Monitor::CellEnd { cell, value } => {
                 out.extend_from_slice(b"cell_end ");
-                push_number(&mut out, *cell as u64);
+                push_number(out, *cell as u64);
                 out.push(b' ');
-                push_number(&mut out, *value);
+                push_number(out, *value);
                 judged = matches!(run.verdict, Verdict::Ended);
             }
         }
         match failed {
-            Some(after) => push_list(&mut out, " failed after", [*after as u64]),
+            Some(after) => push_list(out, " failed after", [*after as u64]),
             None if judged => out.extend_from_slice(b" held\n"),
             None => out.extend_from_slice(b" unjudged\n"),
         }
     }
+}
+
+// Appends the lines of its steps.
+pub fn push_steps(out: &mut Vec<u8>, run: &Run) {
     for (step, entry) in run.journal.iter().enumerate() {
         out.extend_from_slice(b"step ");
-        push_number(&mut out, step as u64);
+        push_number(out, step as u64);
         out.push(b' ');
-        push_number(&mut out, u64::from(entry.thread));
+        push_number(out, u64::from(entry.thread));
         out.push(b' ');
-        push_event(&mut out, &entry.event);
+        push_event(out, &entry.event);
         out.extend_from_slice(b" = ");
-        push_number(&mut out, entry.reply);
+        push_number(out, entry.reply);
         if entry.forced {
             out.extend_from_slice(b" forced");
         }
         out.push(b'\n');
     }
-    out
 }
