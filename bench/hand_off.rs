@@ -1,46 +1,104 @@
-// The hand-off of a run on threads alone, as an ordinary Rust program: one lock, and for each thread a condition
-// variable at which it sleeps. Reads a report from the file named, and has as many threads as it names make its steps
-// in its order, which do nothing. Prints the nanoseconds a step, the start of the threads left out.
-use std::sync::{Barrier, Condvar, Mutex};
-use std::time::Instant;
+// The hand-off of a run on threads alone, as an ordinary Rust program. Reads a report from the file named second, and
+// has as many threads as it names make its steps in its order, which do nothing. They hand on as the first word says:
+//
+//     lock   one lock, and for each thread a condition variable at which it sleeps
+//     word   one atomic word, which is the number of the next step; a thread peeks at it a hundred times, and parks
+//
+// Prints the nanoseconds a step, the start of the threads left out.
+use std::hint::spin_loop;
+use std::sync::atomic::{AtomicUsize, Ordering::SeqCst};
+use std::sync::{Barrier, Condvar, Mutex, OnceLock};
+use std::thread::{self, Thread};
+use std::time::{Duration, Instant};
+
+const PEEKS: u32 = 100;
+
+// Starts a thread for each number below `threads`, and takes the time from when all have begun to when all have ended.
+fn time<F: Fn(usize, &Barrier) + Sync>(threads: usize, work: F) -> Duration {
+    let begin = Barrier::new(threads + 1);
+    let mut start = Instant::now();
+    thread::scope(|scope| {
+        for me in 0..threads {
+            let (begin, work) = (&begin, &work);
+            scope.spawn(move || work(me, begin));
+        }
+        begin.wait();
+        start = Instant::now();
+    });
+    start.elapsed()
+}
+
+fn by_lock(order: &[usize], threads: usize) -> Duration {
+    let places: Vec<Condvar> = (0..threads).map(|_| Condvar::new()).collect();
+    let made = Mutex::new(0);
+    time(threads, |me, begin| {
+        begin.wait();
+        loop {
+            let mut step = made.lock().unwrap();
+            while *step < order.len() && order[*step] != me {
+                step = places[me].wait(step).unwrap();
+            }
+            if *step == order.len() {
+                return;
+            }
+            *step += 1;
+            let next = order.get(*step).copied();
+            drop(step);
+            match next {
+                Some(next) => places[next].notify_all(),
+                None => places.iter().for_each(Condvar::notify_all),
+            }
+        }
+    })
+}
+
+fn by_word(order: &[usize], threads: usize) -> Duration {
+    let places: Vec<OnceLock<Thread>> = (0..threads).map(|_| OnceLock::new()).collect();
+    let word = AtomicUsize::new(0);
+    let comes_soon = |me: usize| {
+        for _ in 0..PEEKS {
+            if order.get(word.load(SeqCst)).is_none_or(|next| *next == me) {
+                return true;
+            }
+            spin_loop();
+        }
+        false
+    };
+    time(threads, |me, begin| {
+        places[me].set(thread::current()).unwrap();
+        begin.wait();
+        loop {
+            let step = word.load(SeqCst);
+            if step == order.len() {
+                return;
+            }
+            if order[step] != me {
+                if !comes_soon(me) {
+                    thread::park();
+                }
+                continue;
+            }
+            word.store(step + 1, SeqCst);
+            match order.get(step + 1) {
+                Some(next) => places[*next].get().unwrap().unpark(),
+                None => places.iter().for_each(|place| place.get().unwrap().unpark()),
+            }
+        }
+    })
+}
 
 fn main() {
-    let report = std::fs::read_to_string(std::env::args().nth(1).unwrap()).unwrap();
+    let words: Vec<String> = std::env::args().collect();
+    let report = std::fs::read_to_string(&words[2]).unwrap();
     let order: Vec<usize> = report
         .lines()
         .filter_map(|line| line.strip_prefix("step "))
         .map(|line| line.split(' ').nth(1).unwrap().parse().unwrap())
         .collect();
     let threads = order.iter().max().map_or(0, |most| most + 1);
-    let places: Vec<Condvar> = (0..threads).map(|_| Condvar::new()).collect();
-    let made = Mutex::new(0);
-    let begin = Barrier::new(threads + 1);
-    let mut start = Instant::now();
-    std::thread::scope(|scope| {
-        for me in 0..threads {
-            let (order, places, made, begin) = (&order, &places, &made, &begin);
-            scope.spawn(move || {
-                begin.wait();
-                loop {
-                    let mut step = made.lock().unwrap();
-                    while *step < order.len() && order[*step] != me {
-                        step = places[me].wait(step).unwrap();
-                    }
-                    if *step == order.len() {
-                        return;
-                    }
-                    *step += 1;
-                    let next = order.get(*step).copied();
-                    drop(step);
-                    match next {
-                        Some(next) => places[next].notify_all(),
-                        None => places.iter().for_each(Condvar::notify_all),
-                    }
-                }
-            });
-        }
-        begin.wait();
-        start = Instant::now();
-    });
-    println!("{}", start.elapsed().as_nanos() / order.len().max(1) as u128);
+    let time = match words[1].as_str() {
+        "lock" => by_lock(&order, threads),
+        _ => by_word(&order, threads),
+    };
+    println!("{}", time.as_nanos() / order.len().max(1) as u128);
 }

@@ -12,12 +12,16 @@ use std::marker::Model;
 use std::thread::Parker;
 use surw_base::{OutOfMemory, ThreadNo};
 
+// How often a seat peeks at the turn word before its thread sleeps, where no other number is set.
+const PEEKS: u32 = 100;
+
 /// A state that threads have in turn. A word names the seat that is next, as `32 * round + holder`; the holder 31 means
 /// that no round follows. The state lies in a slot, from which only that seat can take it.
 #[derive(Drop)]
 pub struct TurnTable<T: Rounded> {
     pub(crate) table: Table<Option<T>, View, (), TurnRule, Global>,
     pub(crate) places: Vec<Parker>,
+    pub(crate) peeks: u32,
     seats: u8,
 }
 
@@ -57,10 +61,19 @@ impl<T: Rounded> TurnTable<T> {
         let table = TurnTable {
             table,
             places,
+            peeks: PEEKS,
             seats,
         };
         let list = table.seat_all(first, list);
         Ok((table, list))
+    }
+
+    /// Sets how often a seat that isn't named peeks at the turn word before its thread sleeps; 100, where this isn't
+    /// called. Where all threads share one processor 0 is best, since whoever is named can't run meanwhile.
+    pub fn set_peeks(&mut self, peeks: u32)
+        ensures { self.new ≡ self.old }
+    {
+        self.peeks = peeks;
     }
 
     // All seats, split off the first one in the order of their numbers.

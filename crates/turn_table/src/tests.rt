@@ -153,7 +153,8 @@ fn threads_wait_for_their_turns(rt: HostRuntime) -> Result<(), Fail> {
         left: 50,
         to: ThreadNo::new(1),
     };
-    let (table, mut seats) = TurnTable::new(rt.alloc(), start, 2)?;
+    let (mut table, mut seats) = TurnTable::new(rt.alloc(), start, 2)?;
+    table.set_peeks(1);
     let second = seats.pop().unwrap();
     let first = seats.pop().unwrap();
     let (first, second) = thread::join(

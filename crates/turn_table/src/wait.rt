@@ -5,9 +5,6 @@ use crate::{Look, Rounded, Turn, TurnSeat, TurnTable};
 use std::hint::spin_loop;
 use std::sync::Wait;
 
-// How often a seat peeks at the turn word before its thread sleeps.
-const PEEKS: u32 = 100;
-
 /// How a wait for a turn ends.
 pub enum TurnAnswer<T: Rounded> {
     /// The turn is the seat's.
@@ -56,7 +53,7 @@ impl<T: Rounded> TurnTable<T> {
 
     // Whether the turn word names this thread or none, within a short while.
     fn comes_soon(&self, number: u8) -> bool {
-        for _peek in 0..PEEKS {
+        for _peek in 0..self.peeks {
             let holder = self.table.shared.peek(0) % 32;
             if holder == u64::from(number) || holder == 31 {
                 return true;
