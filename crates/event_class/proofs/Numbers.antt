@@ -1,9 +1,9 @@
 -- Numbers at the front of a text, each behind a space.
-use Rattle.std.proofs.Common.{◌≡◌, ℕ, suc, ◌+◌, ◌%◌, ◌^◌, ◌<◌, ◌≤◌, ◌==◌, cond, List, [], ◌∷◌, ◌++◌, length, get_or, take, drop, refl, ap, sym, subst, ◌∙◌, arith, inl, inr, length-append}
+use Rattle.std.proofs.Common.{◌≡◌, ℕ, suc, ◌+◌, ◌-◌, ◌%◌, ◌^◌, ◌<◌, ◌≤◌, ◌==◌, cond, List, [], ◌∷◌, ◌++◌, length, get_or, take, drop, refl, ap, sym, subst, ◌∙◌, arith, inl, inr, length-append}
 use Rattle.std.proofs.Math.Seq.{take-add}
 use Rattle.std.proofs.lemmas.Bool.{cases_lt, ne_eqb}
 use Rattle.std.proofs.lemmas.Fmt.{decimal_by_steps}
-use Rattle.std.proofs.lemmas.List.{take-append-drop, take-take, length-take-le, get_or-take, get_or_at, take_at, drop_at, drop_more, drop-drop, drop-take, append-nil, length_push, length-drop, nil_from_length, take-append-le}
+use Rattle.std.proofs.lemmas.List.{take-append-drop, take-take, length-take-le, get_or-take, get_or_at, take_at, drop_at, drop_more, drop-drop, drop-take, append-nil, append_assoc, length_push, length-drop, nil_from_length, take-append-le}
 use Rattle.std.proofs.lemmas.List.Concat.{flat_map-append}
 use Rattle.std.proofs.lemmas.List.Elements.{All-head, All-tail, All-push, All-take, All-get_or}
 use Rattle.std.specs.Fmt.{decimal}
@@ -159,3 +159,18 @@ first-three [] count le few = take-append-le count [] (0 ∷ 0 ∷ 0 ∷ []) le
 first-three (x ∷ []) count le few = take-append-le count (x ∷ []) (0 ∷ 0 ∷ []) le
 first-three (x ∷ y ∷ []) count le few = take-append-le count (x ∷ y ∷ []) (0 ∷ []) le
 first-three (x ∷ y ∷ z ∷ zs) count le few = sym (take-append-le count (x ∷ y ∷ z ∷ []) zs few)
+
+-- one number more before the text of those behind it
+pub one-before : (numbers line tail : List ℕ) (i count : ℕ) → length (take count numbers) ≡ count → 0 < i → i ≤ count
+    → line ≡ items_text (drop i (take count numbers)) ++ tail
+    → 32 ∷ (decimal (get_or numbers (i - 1) 0) ++ line) ≡ items_text (drop (i - 1) (take count numbers)) ++ tail
+one-before numbers line tail i count many some within is =
+    let ns = take count numbers in
+    let k = i - 1 in
+    let n = get_or numbers k 0 in
+    let next : k + 1 ≡ i = omega arith in
+    let here : get_or ns k 0 ≡ n = get_or-take count numbers k 0 (omega arith) in
+    let rest : drop k ns ≡ n ∷ drop i ns = drop_more ns k 0 (omega (arith, many)) ∙ (λ j. here j ∷ drop (next j) ns) in
+    ap (λ (l : List ℕ). 32 ∷ (decimal n ++ l)) is
+    ∙ sym (ap (λ (l : List ℕ). 32 ∷ l) (append_assoc (decimal n) (items_text (drop i ns)) tail))
+    ∙ sym (ap (λ (l : List ℕ). items_text l ++ tail) rest)

@@ -1,14 +1,16 @@
 ghost use Rattle.std.specs.Prelude.{◌≡◌, ℕ, ◌+◌, List, ◌++◌, ◌≤◌, Some, length, take, drop, IsTrue, IfSome, IfNone, OnOk, OnErr, MatchOption, nat_eq};
 ghost use Rattle.std.specs.List.{starts_with};
 ghost use Rattle.surw_base.specs.Prefix.{IsLongestPrefix, HasNoPrefix};
+ghost use Rattle.line_text.specs.declared.line.TheConstants.{LINE_ROOM};
 ghost use Rattle.event_class.specs.Event.{verb_of, numbers_of, event_text, AreSmall, AreNumbersText, IsEventText, IsPrinted};
 
 use crate::Event;
 use crate::event::FORMS;
-use surw_base::{OutOfMemory, digits_of, read_number};
+use line_text::Line;
+use surw_base::{OutOfMemory, read_number};
 
-// The most bytes of an event's text: a verb of 7 bytes, and three numbers with a space and 20 digits each.
-const LONGEST: usize = 70;
+/// The most bytes of an event's text: a verb of 7 bytes, and three numbers with a space and 20 digits each.
+pub const EVENT_ROOM: usize = 70;
 
 /// Appends the text of an event. After a refusal the vector is unchanged.
 pub fn push_event(out: &mut Vec<u8>, event: &Event) -> Result<(), OutOfMemory>
@@ -18,37 +20,27 @@ pub fn push_event(out: &mut Vec<u8>, event: &Event) -> Result<(), OutOfMemory>
     // What a caller needs to know of the event so that its text is read again.
     ensures below { AreSmall (numbers_of event.now) }
 {
-    let (text, len) = text_of(event);
-    out.extend_from_slice(&text[..len])?;
+    let mut line = Line::new();
+    put_event(&mut line, event);
+    out.extend_from_slice(line.as_slice())?;
     Ok(())
 }
 
-// The text of an event, at the front of the array, and how many bytes it has.
-fn text_of(event: &Event) -> ([u8; LONGEST], usize)
-    ensures text { take result.1 result.0 ≡ event_text event.now }
-    ensures within { result.1 ≤ LONGEST }
+/// Puts the text of an event before what the line has.
+pub fn put_event(line: &mut Line, event: &Event)
+    requires { EVENT_ROOM + length line.old ≤ LINE_ROOM }
+    ensures text { line.new ≡ event_text event.now ++ line.old }
+    ensures short { length line.new ≤ EVENT_ROOM + length line.old }
+
+    // What a caller needs to know of the event so that its text is read again.
     ensures below { AreSmall (numbers_of event.now) }
 {
-    let mut text = [0; LONGEST];
     let (numbers, count) = event.numbers();
-    let mut len = put(&mut text, 0, event.verb());
-    for number in &numbers[..count] {
-        let (digits, width) = digits_of(*number);
-        len = put(&mut text, len, b" ");
-        len = put(&mut text, len, &digits[..width]);
+    for i in (0..count).rev() {
+        line.put_number(numbers[i]);
+        line.put(b" ");
     }
-    (text, len)
-}
-
-// Writes the bytes from `start` on, and gives the place behind them.
-fn put(text: &mut [u8], start: usize, bytes: &[u8]) -> usize
-    requires { start + length bytes.now ≤ length text.old }
-    ensures end { result ≡ start + length bytes.now }
-    ensures prefix { take result text.new ≡ take start text.old ++ bytes.now }
-{
-    let end = start + bytes.len();
-    text[start..end].copy_from_slice(bytes);
-    end
+    line.put(event.verb());
 }
 
 /// The longest prefix of a text that is an event's text: the event, and how many bytes it has. None exactly

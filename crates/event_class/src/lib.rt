@@ -7,6 +7,6 @@ mod pickable;
 mod selection;
 
 pub use event::{Class, Event};
-pub use event_text::{push_event, read_event};
+pub use event_text::{EVENT_ROOM, push_event, put_event, read_event};
 pub use pickable::{Pickable, read_pickable};
 pub use selection::Selection;

@@ -1,4 +1,4 @@
-ghost use Rattle.std.specs.Prelude.{◌≡◌, ◌<◌, ◌++◌, [], ◌∷◌, ℕ, List, IfSome, IsSomeAnd, MatchOption, OnOk};
+ghost use Rattle.std.specs.Prelude.{◌≡◌, ◌<◌, ◌++◌, ◌∷◌, ℕ, List, IfSome, IsSomeAnd};
 ghost use Rattle.std.specs.Fmt.{decimal};
 ghost use Rattle.surw_base.specs.Lines.{line};
 ghost use Rattle.replay_text.specs.EntryOf.{entry_of};
@@ -6,32 +6,21 @@ ghost use Rattle.replay_text.specs.SavedRun.{IsEntry};
 ghost use Rattle.replay_text.specs.SavedText.{entry_text};
 ghost use Rattle.surw_base.specs.declared.limits.TheConstants.{THREADS};
 
-use event_class::{push_event, read_event};
-use surw_base::{OutOfMemory, THREADS, ThreadNo, read_number};
+use event_class::{put_event, read_event};
+use line_text::Line;
+use surw_base::{THREADS, ThreadNo, read_number};
 use walk_rules::Asked;
 
-// Appends the line of an entry. After a refusal a part of it may stand there.
-pub(crate) fn push_entry(out: &mut Vec<u8>, entry: &Asked) -> Result<(), OutOfMemory>
-    ensures ok { OnOk result (out.new.items ≡ out.old.items ++ line (entry_text entry.now)) }
-    ensures fits { OnOk result (IsEntry entry.now) }
+// Makes the line that of an entry.
+pub(crate) fn make_entry_line(out: &mut Line, entry: &Asked)
+    ensures text { out.new ≡ line (entry_text entry.now) }
+    ensures fits { IsEntry entry.now }
 {
-    push_thread(out, entry.thread)?;
-    push_event(out, &entry.event)?;
-    out.push(b'\n')?;
-    Ok(())
-}
-
-// Appends a thread, which has two digits at most, and a space. After a refusal a part of them may stand there.
-fn push_thread(out: &mut Vec<u8>, thread: ThreadNo) -> Result<(), OutOfMemory>
-    ensures ok { OnOk result (out.new.items ≡ out.old.items ++ (decimal thread ++ 32 ∷ [])) }
-    ensures below { thread < THREADS }
-{
-    let number = thread.get();
-    if number >= 10 {
-        out.push(b'0' + number / 10)?;
-    }
-    out.extend_from_slice(&[b'0' + number % 10, b' '])?;
-    Ok(())
+    out.clear();
+    out.put(b"\n");
+    put_event(out, &entry.event);
+    out.put(b" ");
+    out.put_number(u64::from(entry.thread.get()));
 }
 
 // The entry that a line gives. None where it gives none.

@@ -4,8 +4,9 @@ ghost use Rattle.replay_text.specs.SavedText.{saved_text};
 
 use crate::Saved;
 use crate::end_line::push_end;
-use crate::entry_line::push_entry;
+use crate::entry_line::make_entry_line;
 use crate::name_line::push_name;
+use line_text::Line;
 use std::alloc::Global;
 use surw_base::OutOfMemory;
 
@@ -20,8 +21,10 @@ pub fn write_replay(alloc: Global, saved: &Saved) -> Result<Vec<u8>, OutOfMemory
     let mut text = Vec::new(alloc);
     text.extend_from_slice(b"surw-replay 1\n")?;
     push_name(&mut text, saved.name())?;
+    let mut line = Line::new();
     for entry in saved.asked().as_slice() {
-        push_entry(&mut text, entry)?;
+        make_entry_line(&mut line, entry);
+        text.extend_from_slice(line.as_slice())?;
     }
     push_end(&mut text, saved.asked().len())?;
     Ok(text)

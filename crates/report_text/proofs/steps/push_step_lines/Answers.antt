@@ -12,7 +12,8 @@ loop-k-preserved c =
     let k = c.loop-k.k in
     let entry = c.index-journal-k.result in
     let here : slice_get journal k ≡ Some entry = slice_get_read journal (length journal) k entry refl c.loop-k-test.true c.index-journal-k.is in
-    added _ _ _ _ _ _ c.loop-k.invariant c.in_ok-push_step_line.ensures
+    let line = c.as_slice.ensures ∙ c.make_step_line.ensures in
+    added _ _ _ _ _ _ c.loop-k.invariant (c.in_ok-extend_from_slice.ensures.items ∙ ap (λ (l : List ℕ). c.loop-k.text.items ++ l) line)
     (text-next (λ e. step_line e.0 e.1) (enumerate_from 0 journal) k (k, entry) (numbered journal k entry here))
 
 pub returns : goal.returns
