@@ -1,5 +1,5 @@
 -- What the running parts decide is what the position decides.
-use Rattle.std.proofs.Common.{◌≡◌, ℕ, zero, suc, ◌==◌, ◌||◌, ◌<◌, eqb, Bool, true, false, cond, not, List, [], ◌∷◌, length, map, Option, None, Some, is_some, refl, ap, sym, subst, ◌∙◌, inl, inr, arith}
+use Rattle.std.proofs.Common.{◌≡◌, ℕ, ◌||◌, ◌<◌, eqb, Bool, true, false, cond, not, List, [], ◌∷◌, length, map, Option, None, Some, is_some, refl, ap, sym, subst, ◌∙◌, inl, inr, arith}
 use Rattle.std.proofs.lemmas.Bool.{cases_eq, le-ltb, lt-ltb}
 use Rattle.std.proofs.lemmas.List.{length-map}
 use Rattle.std.specs.List.{count_by, list_any}
@@ -19,7 +19,7 @@ use Rattle.walk_rules.specs.State.{WalkState}
 use Rattle.walk_rules.specs.Strategies as strategies
 use Rattle.walk_rules.specs.Strategies.{asked_at, asked_list, pick_from}
 use Rattle.walk_rules.specs.Strategy.{OnePick}
-use Rattle.walk_rules.specs.Walk.{AreChosenUnder, wrong_of}
+use Rattle.walk_rules.specs.Walk.{AreChosenUnder, NoOtherIsWrong, wrong_of}
 use Rattle.walk_rules.proofs.AbleThreads.{length-able}
 use Rattle.run_rules.specs.declared.verdict.Verdict.{Verdict}
 use Rattle.run_rules.specs.declared.verdict.Verdict.TheVariants.{Ended, Deadlock}
@@ -31,11 +31,12 @@ use Rattle.run_rules.proofs.WholeSelection.{chosen-under}
 use Rattle.run_rules.proofs.WrongCounts.{wrong-follows}
 use Rattle.run_rules.proofs.StrategyPicks.{picks-choices}
 use Rattle.pure_run.specs.declared.next.Next.{Next}
-use Rattle.pure_run.specs.declared.next.Next.TheVariants.{Due, Stopped}
+use Rattle.pure_run.specs.declared.next.Next.TheVariants.{Due}
 use Rattle.pure_run.specs.declared.running.Running.{Running}
-use Rattle.pure_run.specs.Core.{CoreState, is_due, last_word, position, setup_by}
+use Rattle.pure_run.specs.Core.{CoreState, is_due, last_thread, last_word, position, setup_by}
 use Rattle.pure_run.specs.Decision.{IsDecidable, bounds_by, decision, is_drawn_at, next_after, next_picked, pick_by, stopped_or, walk_then, wrong_verdict}
 use Rattle.pure_run.specs.Invariant.{AreParts, IsAbleNext, IsCore, IsKept, IsRunning, next_by, next_in}
+use Rattle.pure_run.proofs.LastWrong.{if-some, last-is}
 use Rattle.pure_run.proofs.Counts.{count-any, none-counted, positive, some-counted}
 use Rattle.pure_run.proofs.Sources.{asked-more, rest-answers}
 
@@ -138,6 +139,13 @@ module _ {S O : Type 0} (draws_s : Ghosts S) (draws_o : Ghosts O) (core : CoreSt
           each = seen ∙ kept.each ∙ sym kept.valid.counted ∙ sym (ap (λ (w : WalkState). length w.counts) ready.walk);
           words = sym seen;
           few = omega (arith, kept.each, kept.valid.threads);
+          last =
+              if-some (last_thread core.journal) (λ thread. thread < length running.view)
+              (λ thread is. let last = last-is setup core kept thread is in omega (arith, last.within, seen, length-map core.words last_word));
+          right =
+              if-some (last_thread core.journal) (NoOtherIsWrong running.walk running.view)
+              (λ thread is. subst (λ w. NoOtherIsWrong w running.view thread) (sym ready.walk)
+              (subst (λ v. NoOtherIsWrong (walk_at setup x) v thread) (sym ready.view) (last-is setup core kept thread is).others));
           seen = ap (list_any is_announcing) ready.view ∙ announcing-words (world_at setup x) setup.selection x.words;
           step = sym (ap (λ (w : WalkState). w.steps) ready.walk);
           short = kept.short;

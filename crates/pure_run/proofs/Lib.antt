@@ -1,3 +1,4 @@
+pub mod CoreSends
 pub mod Counts
 pub mod CountsMade
 pub mod Decision
@@ -6,6 +7,7 @@ pub mod FirstWords
 pub mod Grant
 pub mod InlineRun
 pub mod InlineStep
+pub mod LastWrong
 pub mod MonitorsEqual
 pub mod NewCore
 pub mod OneProfile

@@ -1,5 +1,5 @@
 -- Why the profile's run stops.
-use Rattle.std.proofs.Common.{◌≡◌, ℕ, ◌==◌, Bool, true, false, cond, List, [], ◌∷◌, length, Option, None, Some, IfSome, IsOk, Result, Ok, Err, refl, subst, ap, sym, ◌∙◌}
+use Rattle.std.proofs.Common.{◌≡◌, ℕ, ◌==◌, List, [], ◌∷◌, length, Option, IfSome, IsOk, Result, Ok, Err, refl, subst, ap, sym, ◌∙◌}
 use Rattle.std.proofs.lemmas.Bool.{eqb-true, false≢true}
 use Rattle.seed_draws.specs.declared.draw_fault.DrawFault.{DrawFault}
 use Rattle.seed_draws.specs.Answers.{answers, with_first, without_first}
@@ -14,7 +14,7 @@ use Rattle.run_rules.specs.Position.{Position, position_of, seen_at}
 use Rattle.run_rules.specs.RuleChoice.{choice}
 use Rattle.run_rules.specs.Run.{IsRun, Outcome}
 use Rattle.run_rules.specs.Setup.{Script, Setup}
-use Rattle.run_rules.specs.Verdict.{deadlock, end_of_threads, first_of, refusal, step_limit, verdict_at}
+use Rattle.run_rules.specs.Verdict.{deadlock, end_of_threads, refusal, step_limit, verdict_at}
 use Rattle.run_rules.proofs.Scripts.{length-words}
 use Rattle.run_rules.proofs.Verdicts.{verdict-unasked}
 use Rattle.pure_run.specs.Profile.{profile_script, profile_setup}

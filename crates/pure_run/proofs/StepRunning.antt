@@ -1,11 +1,9 @@
 -- The running parts of a core after a step.
-use Rattle.std.proofs.Common.{◌≡◌, ◌≢◌, ℕ, ◌+◌, ◌==◌, ◌&&◌, ◌<◌, ◌≤◌, ◌⊎◌, All, Bool, true, false, cond, List, [], ◌∷◌, ◌++◌, length, get_or, map, set, None, Some, IsTrue, refl, ap, sym, subst, ◌∙◌, inl, inr, arith}
-use Rattle.std.proofs.lemmas.Bool.{eqb-true}
+use Rattle.std.proofs.Common.{◌≡◌, ℕ, ◌+◌, ◌==◌, ◌&&◌, ◌<◌, ◌≤◌, All, Bool, true, false, cond, List, [], ◌∷◌, ◌++◌, length, get_or, map, set, None, Some, IsTrue, refl, ap, sym, subst, ◌∙◌, arith}
+use Rattle.std.proofs.lemmas.Bool.{eqb-true, false≢true}
 use Rattle.std.proofs.lemmas.List.{length-append, length-map}
 use Rattle.std.proofs.lemmas.Option.{get_or_from_slice_get}
 use Rattle.std.specs.Option.{option_or}
-use Rattle.event_class.specs.declared.event.Class.{Class}
-use Rattle.event_class.specs.Event.{class}
 use Rattle.event_class.specs.Selection.{has}
 use Rattle.draw_split.specs.Bag.{less_one}
 use Rattle.seed_draws.specs.Answers.{IsSource, after_bounds}
@@ -13,9 +11,10 @@ use Rattle.seed_draws.specs.declared.draws.Draws.{Ghosts}
 use Rattle.test_world.specs.declared.monitor.Monitor.{Monitor}
 use Rattle.test_world.specs.declared.monitor.Monitor.TheVariants.{WriteAhead, LogWhole, Expect, CellEnd}
 use Rattle.test_world.specs.Monitor.{CanWatch}
-use Rattle.test_world.specs.World.{after, new_world}
+use Rattle.test_world.specs.World.{WorldState, after, is_enabled, new_world}
 use Rattle.walk_rules.specs.declared.seen.Seen.{Seen}
-use Rattle.walk_rules.specs.declared.seen.Seen.TheVariants.{Over}
+use Rattle.walk_rules.specs.declared.seen.Seen.TheVariants.{Over, Held, Able}
+use Rattle.walk_rules.specs.Seen.{is_selected, seen_of}
 use Rattle.walk_rules.specs.State.{WalkState}
 use Rattle.walk_rules.specs.Strategies.{counts_down}
 use Rattle.walk_rules.specs.Walk.{after_done, after_picked}
@@ -33,19 +32,22 @@ use Rattle.run_rules.proofs.Journals.{world-more}
 use Rattle.run_rules.proofs.Numbers.{left-kept, left-more, made-more}
 use Rattle.run_rules.proofs.StrategyPicks.{picks-choices}
 use Rattle.run_rules.proofs.Verdicts.{verdict-none}
+use Rattle.run_rules.proofs.Words.{seen-at}
 use Rattle.pure_run.specs.declared.next.Next.TheVariants as next
 use Rattle.pure_run.specs.declared.running.Running.{Running}
+use Rattle.pure_run.specs.declared.word.Word.{Word}
 use Rattle.pure_run.specs.declared.word.Word.TheVariants.{Due, Said}
 use Rattle.pure_run.specs.Core.{CoreState, IsStep, after_entry, is_due, last_word, position, setup_by}
 use Rattle.pure_run.specs.Decision.{is_drawn_at}
 use Rattle.pure_run.specs.Invariant.{AreMadeAsCounted, AreParts, IsCore, failed_so_far}
 use Rattle.pure_run.specs.Monitors.{failed_in, failed_then}
+use Rattle.pure_run.specs.View.{FollowsEvent}
 use Rattle.pure_run.proofs.Counts.{count-none, count-set_up}
 use Rattle.pure_run.proofs.Decision.{running-due}
 use Rattle.pure_run.proofs.Grant.{left-some, made-fewer, next-is}
 use Rattle.pure_run.proofs.Sizes.{size-after, size-step}
 use Rattle.pure_run.proofs.StepJournal.{due-there, kept-step, last-event, longer-earlier, within, word-back}
-use Rattle.pure_run.proofs.Views.{seen-set, seen-step}
+use Rattle.pure_run.proofs.Views.{seen-set}
 use Rattle.pure_run.proofs.WordJournal.{any-due}
 
 -- the numbers left after a step
@@ -92,13 +94,10 @@ places-step setup journal entry (monitor ∷ monitors) =
     (place-step setup journal entry monitor)
     ∙ ap (λ places. failed_so_far setup (journal ++ entry ∷ []) monitor ∷ places) (places-step setup journal entry monitors)
 
-class-cases : (c : Class) → (c ≡ Class.Lock) ⊎ (c ≢ Class.Lock)
-class-cases Class.Lock = inl refl
-class-cases Class.Cell = inr (λ e. cc)
-class-cases Class.Cache = inr (λ e. cc)
-class-cases Class.Disk = inr (λ e. cc)
-class-cases Class.Log = inr (λ e. cc)
-class-cases Class.Check = inr (λ e. cc)
+-- whether the event of a thread that can go on is selected
+selected-is : (chosen enabled : Bool) → IsTrue enabled → is_selected (cond enabled (Able chosen) (Held chosen)) ≡ chosen
+selected-is chosen true is = refl
+selected-is chosen false is = absurd (false≢true is)
 
 module _ {S O : Type 0} (draws_s : Ghosts S) (draws_o : Ghosts O) (core : CoreState S O) (running : Running S O) (entry : Entry)
     (is : IsCore draws_s draws_o core running) (step : IsStep (setup_by draws_s draws_o core) core entry) where
@@ -133,6 +132,7 @@ module _ {S O : Type 0} (draws_s : Ghosts S) (draws_o : Ghosts O) (core : CoreSt
     pub waits : running.walk.waiting ≡ Some (record { thread = entry.thread; forced = entry.forced })
     pub left : IsTrue (counts_down running.walk.rule) → IsTrue (has setup.selection entry.event) → 0 < get_or running.walk.left entry.thread 0
     pub each : length running.view ≡ length core.words
+    pub listed : entry.thread < length running.view
     pub watched : All (CanWatch (after running.world entry.thread entry.event).size) setup.monitors
 
   pub can-step : CanStep
@@ -148,40 +148,45 @@ module _ {S O : Type 0} (draws_s : Ghosts S) (draws_o : Ghosts O) (core : CoreSt
             (left-some setup x entry.thread entry.event ((verdict-none setup x step.going).counted) thread-within (last-event setup core entry is.kept step)
             (sym (ap counts_down rule) ∙ counts) selects);
         each = each;
+        listed = let inside = within setup core entry is.kept step in omega (arith, inside, each);
         watched =
             subst (λ size. All (CanWatch size) setup.monitors)
             (sym (size-step running.world entry.thread entry.event ∙ ap (λ w. w.size) parts.world ∙ size-after (new_world setup.size) core.journal)) is.kept.valid.watched;
       }
 
+  -- whether its event is selected, as it is seen
+  pub chosen-is : (seen : Seen) (chosen : Bool) → seen ≡ seen_of running.view entry.thread → chosen ≡ is_selected seen → chosen ≡ has setup.selection entry.event
+  chosen-is seen chosen seen_is chosen_is =
+      let there : seen_of running.view entry.thread ≡ seen_word (world_at setup x) setup.selection (Some entry.event) =
+      ap (λ v. seen_of v entry.thread) parts.view
+      ∙ seen-at setup x entry.thread
+      ∙ ap (seen_word (world_at setup x) setup.selection) (last-event setup core entry is.kept step) in
+      chosen_is ∙ ap is_selected (seen_is ∙ there) ∙ selected-is (has setup.selection entry.event) (is_enabled (world_at setup x) entry.event) step.enabled
+
   world-step : after running.world entry.thread entry.event ≡ world_at setup (position next-core)
   world-step = ap (λ w. after w entry.thread entry.event) parts.world ∙ sym (world-more (new_world setup.size) core.journal entry)
 
-  pub look-within : (look : List Seen)
-      → (class entry.event ≡ Class.Lock → look ≡ map (seen_word (after running.world entry.thread entry.event) setup.selection) (map last_word core.words))
-      → (class entry.event ≢ Class.Lock → look ≡ running.view) → entry.thread < length look
-  look-within look lock otherwise =
-      let inside = within setup core entry is.kept step in
-      elim (class-cases (class entry.event)) [
-        | inl locks ↦
-            let all : length look ≡ length core.words =
-            ap (λ v. length v) (lock locks) ∙ length-map x.words (seen_word (after running.world entry.thread entry.event) setup.selection) ∙ length-map core.words last_word in
-            omega (arith, inside, all)
-        | inr others ↦ let same : length look ≡ length core.words = ap (λ v. length v) (otherwise others) ∙ can-step.each in omega (arith, inside, same)
-      ]
-
-  -- what is seen then, by a look at all the threads or at none
-  pub seen-then : (look view : List Seen)
-      → (class entry.event ≡ Class.Lock → look ≡ map (seen_word (after running.world entry.thread entry.event) setup.selection) (map last_word core.words))
-      → (class entry.event ≢ Class.Lock → look ≡ running.view) → view ≡ set look entry.thread Over
-      → view ≡ map (seen_word (after running.world entry.thread entry.event) setup.selection) (map last_word (set core.words entry.thread Due))
+  -- what is seen of the words then
+  pub look-then : (now : WorldState) (words : List Word) (look : List Seen) → now ≡ after running.world entry.thread entry.event → words ≡ core.words
+      → FollowsEvent now entry.event (map last_word words) running.view look
+      → look ≡ map (seen_word (after running.world entry.thread entry.event) setup.selection) x.words
   unfolding seen_at
-  seen-then look view lock otherwise is_set = elim (class-cases (class entry.event)) [
-    | inl locks ↦ is_set ∙ ap (λ v. set v entry.thread Over) (lock locks) ∙ seen-set (after running.world entry.thread entry.event) setup.selection core.words entry.thread
-    | inr others ↦
-        is_set
-        ∙ ap (λ v. set v entry.thread Over) (otherwise others ∙ parts.view ∙ ap (λ w. map (seen_word w setup.selection) x.words) (sym parts.world))
-        ∙ seen-step running.world setup.selection core.words entry.thread entry.event others
-  ]
+  look-then now words look now_is words_is follows =
+      follows running.world entry.thread setup.selection now_is
+      (parts.view ∙ (λ i. map (seen_word (sym parts.world i) setup.selection) (map last_word (sym words_is i))))
+      ∙ (λ i. map (seen_word (now_is i) setup.selection) (map last_word (words_is i)))
+
+  pub look-within : (look : List Seen) → look ≡ map (seen_word (after running.world entry.thread entry.event) setup.selection) x.words → entry.thread < length look
+  look-within look is_map =
+      let inside = thread-within in
+      omega (arith, inside, ap (λ v. length v) is_map, length-map x.words (seen_word (after running.world entry.thread entry.event) setup.selection))
+
+  -- and once the word of the thread is due
+  pub seen-then : (look view : List Seen) → look ≡ map (seen_word (after running.world entry.thread entry.event) setup.selection) x.words
+      → view ≡ set look entry.thread Over
+      → view ≡ map (seen_word (after running.world entry.thread entry.event) setup.selection) (map last_word (set core.words entry.thread Due))
+  seen-then look view is_map is_set =
+      is_set ∙ ap (λ v. set v entry.thread Over) is_map ∙ seen-set (after running.world entry.thread entry.event) setup.selection core.words entry.thread
 
   -- the core after the step
   pub core-step : IsSource setup.selected.answers → IsSource setup.other.answers

@@ -1,8 +1,8 @@
 -- Why a run stops before a draw is asked for, and where it goes on.
-use Rattle.std.proofs.Common.{◌≡◌, ◌≢◌, ℕ, ◌==◌, ◌<◌, ltb, eqb, Bool, true, false, cond, List, [], ◌∷◌, length, map, Option, None, Some, IfSome, is_some, refl, ap, sym, subst, ◌∙◌, arith}
-use Rattle.std.proofs.lemmas.Bool.{eqb-false, eq-eqb, false≢true}
+use Rattle.std.proofs.Common.{◌≡◌, ◌≢◌, ℕ, ◌==◌, ◌<◌, ltb, Bool, true, false, cond, List, [], ◌∷◌, length, map, Option, None, Some, IfSome, refl, sym, subst, ◌∙◌, arith}
+use Rattle.std.proofs.lemmas.Bool.{eq-eqb, false≢true}
 use Rattle.std.proofs.lemmas.Option.{none-some}
-use Rattle.std.specs.List.{count_by, list_any}
+use Rattle.std.specs.List.{count_by}
 use Rattle.std.specs.Option.{option_map}
 use Rattle.surw_base.specs.declared.limits.TheConstants.{STEPS}
 use Rattle.event_class.specs.declared.event.Event.{Event}

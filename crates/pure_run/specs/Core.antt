@@ -1,6 +1,7 @@
 -- What a core is seen as, and what it decides.
-use Rattle.std.specs.Prelude.{◌≡◌, ℕ, Bool, true, false, List, [], ◌∷◌, ◌++◌, map, replicate, slice_get, slice_set, slice_index_or, Option, None, Some, is_some, IsTrue, IsSomeAnd, if◌then◌else◌}
+use Rattle.std.specs.Prelude.{◌≡◌, ℕ, ◌-◌, Bool, true, false, List, [], ◌∷◌, ◌++◌, length, map, replicate, slice_get, slice_set, slice_index_or, Option, None, Some, is_some, IsTrue, IsSomeAnd, if◌then◌else◌}
 use Rattle.std.specs.List.{list_any}
+use Rattle.std.specs.Option.{option_map}
 use Rattle.event_class.specs.declared.event.Event.{Event}
 use Rattle.seed_draws.specs.declared.draws.Draws.{Ghosts}
 use Rattle.seed_draws.specs.Answers.{source_of}
@@ -38,6 +39,10 @@ before_word core thread = record core { words = slice_set core.words thread Due 
 -- a core after an entry, whose thread has to say its word
 abbrev pub after_entry : {S O : Type 0} → CoreState S O → Entry → CoreState S O
 after_entry core entry = record core { journal = core.journal ++ entry ∷ []; words = slice_set core.words entry.thread Due }
+
+-- the thread that made the last step
+abbrev pub last_thread : List Entry → Option ℕ
+last_thread journal = option_map (λ entry. entry.thread) (slice_get journal (length journal - 1))
 
 -- whether a word is due
 abbrev pub is_due : Word → Bool

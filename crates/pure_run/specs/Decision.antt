@@ -1,5 +1,5 @@
 -- One decision from the running parts of a core.
-use Rattle.std.specs.Prelude.{◌≡◌, ℕ, ◌==◌, ◌≤◌, ltb, Bool, true, false, List, [], ◌∷◌, length, map, Option, None, Some, is_some, option_map, if◌then◌else◌}
+use Rattle.std.specs.Prelude.{◌≡◌, ℕ, ◌==◌, ◌<◌, ◌≤◌, ltb, Bool, true, false, List, [], ◌∷◌, length, map, Option, None, Some, IfSome, is_some, option_map, if◌then◌else◌}
 use Rattle.std.specs.List.{count_by, list_any}
 use Rattle.surw_base.specs.declared.limits.TheConstants.{STEPS, THREADS}
 use Rattle.event_class.specs.declared.event.Event.{Event}
@@ -10,7 +10,7 @@ use Rattle.walk_rules.specs.Seen.{is_announcing, able_threads}
 use Rattle.walk_rules.specs.State.{WalkState}
 use Rattle.walk_rules.specs.Strategies.{asked_at, asked_list, pick_from}
 use Rattle.walk_rules.specs.Strategy.{OnePick}
-use Rattle.walk_rules.specs.Walk.{after_pick, wrong_of, AreChosenUnder}
+use Rattle.walk_rules.specs.Walk.{after_pick, wrong_of, AreChosenUnder, NoOtherIsWrong}
 use Rattle.run_rules.specs.declared.verdict.Verdict.{Verdict}
 use Rattle.run_rules.specs.declared.verdict.Verdict.TheVariants.{Ended, Deadlock, WrongCount, Draw, StepLimit}
 use Rattle.run_rules.specs.Run.{is_drawn}
@@ -18,7 +18,7 @@ use Rattle.run_rules.specs.Verdict.{first_of, left_over, other_than_asked}
 use Rattle.pure_run.specs.declared.next.Next.{Next}
 use Rattle.pure_run.specs.declared.next.Next.TheVariants.{Due, Granted, Stopped}
 use Rattle.pure_run.specs.declared.running.Running.{Running}
-use Rattle.pure_run.specs.Core.{CoreState, last_word}
+use Rattle.pure_run.specs.Core.{CoreState, last_thread, last_word}
 
 -- whether draws were asked for
 abbrev pub is_drawn_at : Next → Bool
@@ -35,12 +35,15 @@ abbrev pub next_picked : ℕ → Picked → Next
 next_picked step (picked.Grant thread forced) = Granted (record { thread = thread; forced = forced })
 next_picked step (picked.Stop fault) = Stopped (Draw step fault)
 
--- what a decision is made of: what is seen is of the core's words, no grant waits, and there is room for the step
+-- what a decision is made of: what is seen is of the core's words, no thread but that of the last step is wrong, no
+-- grant waits, and there is room for the step
 pub record IsDecidable {S O : Type 0} (core : CoreState S O) (running : Running S O) : Type 0 where
   pub each : length running.view ≡ length running.walk.counts
   pub words : length core.words ≡ length running.view
   pub few : length core.words ≤ THREADS
   pub seen : list_any is_announcing running.view ≡ list_any is_some (map last_word core.words)
+  pub last : IfSome (last_thread core.journal) (λ thread. thread < length running.view)
+  pub right : IfSome (last_thread core.journal) (NoOtherIsWrong running.walk running.view)
   pub step : length core.journal ≡ running.walk.steps
   pub short : length core.journal ≤ core.opening.max_steps
   pub most : core.opening.max_steps ≤ STEPS

@@ -7,3 +7,4 @@ pub mod Monitors
 pub mod Opening
 pub mod Profile
 pub mod Run
+pub mod View

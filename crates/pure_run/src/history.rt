@@ -2,7 +2,7 @@ ghost use Rattle.std.specs.Prelude.{◌≡◌, ◌<◌, ◌≤◌, IfOk, length,
 ghost use Rattle.surw_base.specs.declared.limits.TheConstants.{THREADS, STEPS};
 ghost use Rattle.run_rules.specs.Plan.{IsValidPlan};
 ghost use Rattle.pure_run.specs.declared.word.Word.TheVariants.{Due};
-ghost use Rattle.pure_run.specs.Core.{new_core, after_word, after_entry, last_word};
+ghost use Rattle.pure_run.specs.Core.{new_core, after_word, after_entry, last_thread, last_word};
 ghost use Rattle.pure_run.specs.Opening.{opening_of};
 
 use crate::{Opening, Word};
@@ -76,6 +76,13 @@ impl<S: Draws, O: Draws> History<S, O> {
         ensures { slice_get self.now.journal k ≡ Some result }
     {
         self.journal[k as usize]
+    }
+
+    // The thread that made the last step.
+    pub(crate) fn last_thread(&self) -> Option<ThreadNo>
+        ensures { result ≡ last_thread self.now.journal }
+    {
+        self.journal.last().map(|entry| entry.thread)
     }
 
     pub(crate) fn words(&self) -> &[Word]

@@ -3,6 +3,7 @@ ghost use Rattle.run_rules.specs.declared.verdict.Verdict.{Verdict};
 ghost use Rattle.run_rules.specs.Setup.{IsValid};
 ghost use Rattle.seed_draws.specs.Answers.{Source, after_bounds};
 ghost use Rattle.walk_rules.specs.State.{new_walk};
+ghost use Rattle.walk_rules.specs.Walk.{wrong_of};
 ghost use Rattle.pure_run.specs.declared.next.Next.TheVariants.{Stopped};
 ghost use Rattle.pure_run.specs.declared.word.Word.TheVariants.{Said};
 ghost use Rattle.pure_run.specs.Core.{new_core, before_word, after_entry, position, setup_by, granted_of, IsGrantedStep, IsStep};
@@ -108,7 +109,7 @@ impl<S: Draws, O: Draws> Running<S, O> {
         if let Some(verdict) = other_than_asked(step, words, &self.view, asked) {
             return Some(verdict);
         }
-        if let Some((thread, counted, seen)) = self.walk.wrong(&self.view) {
+        if let Some((thread, counted, seen)) = self.wrong(history) {
             return Some(Verdict::WrongCount {
                 step,
                 thread,
@@ -126,6 +127,17 @@ impl<S: Draws, O: Draws> Running<S, O> {
             return Some(Verdict::Deadlock { step });
         }
         left_over(step, words, &self.walk)
+    }
+
+    // The wrong count that is found first. After a step only its thread can have one.
+    fn wrong(&self, history: &History<S, O>) -> Option<(ThreadNo, u32, u32)>
+        requires { IsDecidable history.now self.now }
+        ensures { result ≡ wrong_of self.now.walk self.now.view }
+    {
+        match history.last_thread() {
+            None => self.walk.wrong(&self.view),
+            Some(thread) => self.walk.wrong_at(&self.view, thread),
+        }
     }
 
     // The parts after a thread has said its word, which was due. With the last word that is due it is decided what comes
@@ -166,23 +178,16 @@ impl<S: Draws, O: Draws> Running<S, O> {
         ensures core { IsCore S.Draws O.Draws (after_entry history.now result) self.new }
     {
         let (event, forced) = self.grant(history, thread);
-        let opening = history.opening();
-        let selection = opening.selection();
+        let chosen = self.view.get(thread).is_selected();
         let reply = self.world.apply(thread, &event);
-        self.walk.done(thread, selection.has(&event), forced);
+        self.walk.done(thread, chosen, forced);
         watch(
             &mut self.failed,
             &self.world,
             history.len() + 1,
-            opening.monitors(),
+            history.opening().monitors(),
         );
-        look_after(
-            &mut self.view,
-            &self.world,
-            selection,
-            history.words(),
-            &event,
-        );
+        look_after(&mut self.view, &self.world, history.words(), &event);
         self.view.set(thread, Seen::Over);
         self.due = 1;
         self.next = Next::Due;

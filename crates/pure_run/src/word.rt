@@ -1,5 +1,6 @@
 ghost use Rattle.std.specs.Prelude.{◌≡◌};
 ghost use Rattle.pure_run.specs.Core.{last_word};
+ghost use Rattle.pure_run.specs.View.{is_acquire};
 
 use event_class::Event;
 
@@ -21,6 +22,15 @@ impl Word {
         match *self {
             Word::Due => None,
             Word::Said(event) => event,
+        }
+    }
+    // Whether it is the acquire of a lock.
+    pub(crate) fn acquires(&self, lock: u64) -> bool
+        ensures { result ≡ is_acquire lock (last_word self.now) }
+    {
+        match *self {
+            Word::Said(Some(Event::Acquire { l })) => l == lock,
+            _ => false,
         }
     }
 }

@@ -1,44 +1,28 @@
 -- The threads that can go on, and numbers that are kept to them.
-use Rattle.std.proofs.Common.{◌≡◌, ℕ, zero, suc, ◌+◌, ◌<◌, ◌≤◌, Bool, true, false, cond, IsTrue, List, [], ◌∷◌, ◌++◌, length, get_or, take, drop, sum, refl, ap, sym, subst, ◌∙◌, inl, inr, arith}
+use Rattle.std.proofs.Common.{◌≡◌, ℕ, zero, suc, ◌+◌, ◌<◌, ◌≤◌, true, false, cond, IsTrue, List, [], ◌∷◌, length, get_or, take, sum, refl, ap, sym, subst, ◌∙◌, inl, inr, arith}
 use Rattle.std.proofs.lemmas.Bool.{false≢true, cases_lt, cases_Bool, cond-true, cond-false}
-use Rattle.std.proofs.lemmas.List.{append_assoc, append-nil, drop_more, drop_all, get_or_past, length_push}
-use Rattle.std.proofs.lemmas.List.Sums.{sum_by-cons}
-use Rattle.std.specs.List.{filter, range_with_len, count_by}
+use Rattle.std.proofs.lemmas.List.{get_or_past, take_all}
+use Rattle.std.proofs.lemmas.List.Sums.{sum_by-cons, sum_by_more, sum_by_more_le}
+use Rattle.std.specs.List.{count_by}
 use Rattle.draw_split.specs.Bag.{pick}
-use Rattle.draw_split.proofs.Bag.{IsAt, placed, at-below, listed}
+use Rattle.draw_split.proofs.Bag.{IsAt, pick-at, placed, at-below, listed}
 use Rattle.walk_rules.specs.Seen.{is_able, seen_of, able_threads, kept_to_able}
 use Rattle.walk_rules.specs.declared.seen.Seen.{Seen}
 use Rattle.walk_rules.specs.declared.seen.Seen.TheVariants.{Over, Held, Able}
+use Rattle.walk_rules.proofs.PassingThreads.{length-more, passing_from, passing-all}
 
 -- the threads that can go on, where the first thread has this number
 abbrev pub able_from : ℕ → List Seen → List ℕ
-able_from first [] = []
-able_from first (seen ∷ view) = cond (is_able seen) (first ∷ able_from (first + 1) view) (able_from (first + 1) view)
-
-filter-able : (seen_at : ℕ → Seen) (first : ℕ) (view : List Seen) → ((k : ℕ) → k < length view → seen_at (first + k) ≡ get_or view k Over)
-    → filter (λ thread. is_able (seen_at thread)) (range_with_len first (length view)) ≡ able_from first view
-filter-able seen_at first [] same = refl
-filter-able seen_at first (seen ∷ view) same =
-    let start : first ≡ first + 0 = omega arith in
-    let here : seen_at first ≡ seen = ap seen_at start ∙ same 0 (omega arith) in
-    let later : (k : ℕ) → k < length view → seen_at (first + 1 + k) ≡ get_or view k Over =
-    λ k lt. let next : first + 1 + k ≡ first + suc k = omega arith in ap seen_at next ∙ same (suc k) (omega arith) in
-    let rest = filter-able seen_at (first + 1) view later in
-    (λ i. cond (is_able (here i)) (first ∷ rest i) (rest i))
+able_from = passing_from (λ thread seen. is_able seen)
 
 pub able-threads : (view : List Seen) → able_threads view ≡ able_from 0 view
 unfolding able_threads
-able-threads view =
-    filter-able (seen_of view) 0 view (λ k lt. let same : 0 + k ≡ k = omega arith in ap (seen_of view) same)
-
-length-either : (able : Bool) (first : ℕ) (rest : List ℕ) → length (cond able (first ∷ rest) rest) ≡ cond able 1 0 + length rest
-length-either true first rest = omega arith
-length-either false first rest = omega arith
+able-threads view = passing-all (λ thread seen. is_able seen) view
 
 length-able_from : (first : ℕ) (view : List Seen) → length (able_from first view) ≡ count_by is_able view
 length-able_from first [] = refl
 length-able_from first (seen ∷ view) =
-    length-either (is_able seen) first (able_from (first + 1) view)
+    length-more (is_able seen) first (able_from (first + 1) view)
     ∙ ap (λ n. cond (is_able seen) 1 0 + n) (length-able_from (first + 1) view)
     ∙ sym (sum_by-cons (λ s. cond (is_able s) 1 0) seen view)
 
@@ -88,19 +72,6 @@ able-listed view thread able = elim (cases_lt thread (length view)) [
   | inl below ↦ below
   | inr past ↦ absurd (false≢true (ap is_able (sym (get_or_past view thread Over past)) ∙ able))
 ]
-
--- ---- the way through the threads to the one at a place among those that can go on
-
--- so many of them are still to be passed from this thread on
-pub record IsBefore (view : List Seen) (place thread rest : ℕ) : Type 0 where
-  pub within : rest < length (able_from thread (drop thread view))
-  pub there : get_or (able_from thread (drop thread view)) rest 0 ≡ get_or (able_threads view) place 0
-
--- at the first thread all of them are
-pub before-first : (view : List Seen) (place : ℕ) → place < length (able_threads view) → IsBefore view place 0 place
-before-first view place lt =
-    let all = able-threads view in
-    record { within = subst (λ (threads : List ℕ). place < length threads) all lt; there = ap (λ (threads : List ℕ). get_or threads place 0) (sym all) }
 
 -- ---- numbers kept to the threads that can go on
 
@@ -173,48 +144,41 @@ sum-kept (number ∷ numbers) (Held chosen ∷ view) =
 sum-kept (number ∷ numbers) (Able chosen ∷ view) =
     omega (arith, sum_by-cons (λ x. x) number numbers, sum_by-cons (λ x. x) number (kept_to_able numbers view), sum-kept numbers view)
 
--- ---- the way through the threads that keeps their numbers
+-- ---- the way through the threads with the numbers that are kept
 
--- the numbers of the threads before this one were kept and summed
-pub record AreKept (left : List ℕ) (view : List Seen) (thread : ℕ) (kept : List ℕ) (total : ℕ) : Type 0 where
-  pub long : length kept ≡ thread
-  pub kept_is : kept ++ kept_to_able (drop thread left) (drop thread view) ≡ kept_to_able left view
-  pub total_is : total + sum (kept_to_able (drop thread left) (drop thread view)) ≡ sum (kept_to_able left view)
+-- the next number
+module _ (left : List ℕ) (view : List Seen) (thread number : ℕ) (each : length view ≡ length left) (lt : thread < length view)
+    (is : number ≡ cond (is_able (get_or view thread Over)) (get_or left thread 0) 0) where
+  kept-here : get_or (kept_to_able left view) thread 0 ≡ number
+  kept-here = kept-index left view thread ∙ sym is
 
-pub kept-first : (left : List ℕ) (view : List Seen) → AreKept left view 0 [] 0
-kept-first left view = record { long = refl; kept_is = refl; total_is = omega arith }
+  kept-listed : thread < length (kept_to_able left view)
+  kept-listed = omega (arith, each, lt, length-kept left view)
 
-kept-step : (left : List ℕ) (view : List Seen) (thread : ℕ) → thread < length left → thread < length view
-    → kept_to_able (drop thread left) (drop thread view)
-    ≡ cond (is_able (get_or view thread Over)) (get_or left thread 0) 0 ∷ kept_to_able (drop (thread + 1) left) (drop (thread + 1) view)
-unfolding kept_to_able
-kept-step left view thread within there = (λ i. kept_to_able (drop_more left thread 0 within i) (drop_more view thread Over there i))
+  pub kept-more : sum (take (thread + 1) (kept_to_able left view)) ≡ sum (take thread (kept_to_able left view)) + number
+  kept-more =
+      let here = kept-here in
+      let listed = kept-listed in
+      omega (arith, here, sum_by_more (λ x. x) (kept_to_able left view) thread 0 listed)
 
--- one number more
-pub kept-more : {left : List ℕ} {view : List Seen} {thread : ℕ} {kept : List ℕ} {total : ℕ} → AreKept left view thread kept total
-    → thread < length left → thread < length view → (number : ℕ) → number ≡ cond (is_able (get_or view thread Over)) (get_or left thread 0) 0
-    → AreKept left view (thread + 1) (kept ++ number ∷ []) (total + number)
-kept-more {left} {view} {thread} {kept} {total} are within there number is =
-    let rest : List ℕ = kept_to_able (drop (thread + 1) left) (drop (thread + 1) view) in
-    let step : kept_to_able (drop thread left) (drop thread view) ≡ number ∷ rest = kept-step left view thread within there ∙ ap (λ n. n ∷ rest) (sym is) in
-    record {
-      long = omega (arith, length_push kept number, are.long);
-      kept_is = append_assoc kept (number ∷ []) rest ∙ ap (λ (l : List ℕ). kept ++ l) (sym step) ∙ are.kept_is;
-      total_is = omega (arith, are.total_is, ap sum step, sum_by-cons (λ x. x) number rest);
-    }
+  -- with those before it no more than is left
+  pub kept-within : sum (take thread (kept_to_able left view)) + number ≤ sum left
+  kept-within =
+      let here = kept-here in
+      let listed = kept-listed in
+      omega (arith, here, sum_by_more_le (λ x. x) (kept_to_able left view) thread 0 listed, sum-kept left view)
 
-kept-nothing : (left : List ℕ) (view : List Seen) (thread : ℕ) → length left ≤ thread → kept_to_able (drop thread left) (drop thread view) ≡ []
-unfolding kept_to_able
-kept-nothing left view thread past = ap (λ (l : List ℕ). kept_to_able l (drop thread view)) (drop_all thread left past)
+  -- a place within it is this thread's
+  pub kept-found : (rest place : ℕ) → rest + sum (take thread (kept_to_able left view)) ≡ place → rest < number → pick (kept_to_able left view) place ≡ thread
+  kept-found rest place there within =
+      let here = kept-here in
+      let at : IsAt (kept_to_able left view) place thread rest = record { within = omega (arith, here, within); there = there } in
+      pick-at at
 
--- what was kept in the end
-pub kept-all : {left : List ℕ} {view : List Seen} {thread : ℕ} {kept : List ℕ} {total : ℕ} → AreKept left view thread kept total
-    → length left ≤ thread → (kept ≡ kept_to_able left view) × (total ≡ sum (kept_to_able left view))
-kept-all {left} {view} {thread} {kept} {total} are past =
-    let none = kept-nothing left view thread past in (
-      sym (append-nil kept) ∙ ap (λ (l : List ℕ). kept ++ l) (sym none) ∙ are.kept_is,
-      omega (arith, are.total_is, ap sum none),
-    )
+-- all of them
+pub kept-all : (left : List ℕ) (view : List Seen) (thread : ℕ) → length view ≡ length left → length view ≤ thread
+    → sum (take thread (kept_to_able left view)) ≡ sum (kept_to_able left view)
+kept-all left view thread each past = ap sum (take_all thread (kept_to_able left view) (omega (arith, each, past, length-kept left view)))
 
 -- what is known of a pick
 pub ruleset picks = (able-place, kept-pick)

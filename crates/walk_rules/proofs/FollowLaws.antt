@@ -1,5 +1,5 @@
 -- What holds of a replay's pick.
-use Rattle.std.proofs.Common.{List, Option, None, Some, IsOk, IsSomeAnd, IsTrue, is_ok, ap, slice_get}
+use Rattle.std.proofs.Common.{List, Option, None, Some, IsSomeAnd, IsTrue, is_ok, ap, slice_get}
 use Rattle.seed_draws.specs.Answers.{Answering, IsSource}
 use Rattle.walk_rules.specs.declared.asked.Asked.{Asked}
 use Rattle.walk_rules.specs.declared.seen.Seen.{Seen}

@@ -5,7 +5,9 @@ pub mod FallingPriorities
 pub mod FirstPriorities
 pub mod FollowLaws
 pub mod LinkSearch
+pub mod NarrowThreads
 pub mod NodeOrder
+pub mod PassingThreads
 pub mod PctDraws
 pub mod PctLaws
 pub mod PctValues
@@ -15,6 +17,7 @@ pub mod StepChanges
 pub mod StrategyLaws
 pub mod SurwLaws
 pub mod SurwValues
+pub mod UnheldThreads
 pub mod UrwLaws
 pub mod UrwValues
 pub mod WalkAfterStep

@@ -1,10 +1,8 @@
 -- What holds of SURW's pick.
-use Rattle.std.proofs.Common.{◌≡◌, ℕ, ◌<◌, ◌&&◌, ◌||◌, not, Bool, true, false, cond, IsTrue, IsOk, Result, Ok, Err, List, [], ◌∷◌, ◌++◌, ◌+◌, ◌≤◌, length, get_or, Option, refl, ap, sym, subst, ◌∙◌, inl, inr, arith}
+use Rattle.std.proofs.Common.{◌≡◌, ℕ, ◌<◌, ◌&&◌, ◌||◌, not, Bool, true, false, IsTrue, IsOk, Result, Ok, Err, List, [], ◌∷◌, length, get_or, Option, refl, sym, subst, inl, inr, arith}
 use Rattle.std.proofs.lemmas.Bool.{cases_Bool, cond-true, cond-false, eqb-false}
-use Rattle.std.proofs.lemmas.List.{length-append, map-id}
-use Rattle.std.proofs.lemmas.List.FromFn.{filter_of_map_range_with_len_more}
 use Rattle.std.proofs.lemmas.List.Elements.{All-get_or, filter_passes}
-use Rattle.std.specs.List.{filter, range_with_len}
+use Rattle.std.specs.List.{range_with_len}
 use Rattle.seed_draws.specs.Answers.{Answering, IsSource}
 use Rattle.seed_draws.specs.declared.draw_fault.DrawFault.{DrawFault}
 use Rattle.walk_rules.specs.declared.picked.Picked.TheVariants.{Grant}
@@ -12,29 +10,11 @@ use Rattle.walk_rules.specs.declared.seen.Seen.{Seen}
 use Rattle.walk_rules.specs.Seen.{able_threads, is_able, is_chosen, seen_of}
 use Rattle.walk_rules.specs.Surw.{candidate_at, candidate_bounds, candidates, intention_bounds, intention_by, is_forced, is_intended, is_narrow, narrow, surw, surw_picked}
 use Rattle.walk_rules.specs.Walk.{GrantsAble, IsStrategy}
-use Rattle.walk_rules.proofs.AbleThreads.{able-listed, able-place}
+use Rattle.walk_rules.proofs.AbleThreads.{able-place}
 
 both-first : (a b : Bool) → (a && b) ≡ true → a ≡ true
 both-first true b is = refl
 both-first false b is = is
-
-one-more : (test : ℕ → Bool) (n : ℕ) → filter test (range_with_len 0 (n + 1)) ≡ filter test (range_with_len 0 n) ++ cond (test n) (n ∷ []) []
-one-more test n =
-    ap (filter test) (sym (map-id (range_with_len 0 (n + 1))))
-    ∙ filter_of_map_range_with_len_more test (λ k. k) 0 n n (omega arith)
-    ∙ ap (λ xs. filter test xs ++ cond (test n) (n ∷ []) []) (map-id (range_with_len 0 n))
-
--- the candidates among the first threads, with one more thread
-pub narrow-more : (test : ℕ → Bool) (kept now : List ℕ) (n number : ℕ) (b : Bool) → kept ≡ filter test (range_with_len 0 n) → length kept ≤ n → test n ≡ b → number ≡ n
-    → now ≡ kept ++ cond b (number ∷ []) [] → (now ≡ filter test (range_with_len 0 (n + 1))) × (length now ≤ n + 1)
-narrow-more test kept now n number true is short passes same more = (
-  more ∙ (λ i. is i ++ same i ∷ []) ∙ sym (one-more test n ∙ ap (λ (b : Bool). filter test (range_with_len 0 n) ++ cond b (n ∷ []) []) passes),
-  omega (arith, short, ap length more, length-append kept (number ∷ [])),
-)
-narrow-more test kept now n number false is short passes same more = (
-  more ∙ (λ i. is i ++ []) ∙ sym (one-more test n ∙ ap (λ (b : Bool). filter test (range_with_len 0 n) ++ cond b (n ∷ []) []) passes),
-  omega (arith, short, ap length more, length-append kept []),
-)
 
 -- each narrow candidate is able
 pub narrow-able : (intended : Option ℕ) (view : List Seen) (d : ℕ) → d < length (narrow intended view)
@@ -106,9 +86,5 @@ surw-is = record {
       surw-granted view (intention_by walk.memory.intended walk.left (selected (intention_bounds walk.memory.intended walk.left))) other source_o can.able;
 }
 
--- a narrow candidate is one of the threads
-pub narrow-listed : (intended : Option ℕ) (view : List Seen) (d : ℕ) → d < length (narrow intended view) → get_or (narrow intended view) d 0 < length view
-narrow-listed intended view d lt = able-listed view (get_or (narrow intended view) d 0) (narrow-able intended view d lt)
-
 -- what is known of candidates
-pub ruleset places = (narrow-able, narrow-listed)
+pub ruleset places = (narrow-able)

@@ -1,14 +1,16 @@
 -- Threads that are wrong, and the first number that passes a test.
-use Rattle.std.proofs.Common.{◌≡◌, ℕ, zero, suc, ◌+◌, ◌-◌, ◌<◌, Bool, true, false, IsTrue, List, [], ◌∷◌, length, get_or, sum, Option, Some, None, refl, ap, sym, ◌∙◌, inl, inr, arith}
-use Rattle.std.proofs.lemmas.Bool.{false≢true, cases_Bool, cond-true, cond-false, eqb-false}
+use Rattle.std.proofs.Common.{◌≡◌, ◌≢◌, ℕ, zero, suc, ◌+◌, ◌&&◌, ◌<◌, Bool, cond, true, false, IsTrue, List, [], ◌∷◌, length, get_or, sum, Option, Some, None, refl, ap, sym, ◌∙◌, inl, inr, arith}
+use Rattle.std.proofs.lemmas.Bool.{false≢true, cases_Bool, cases_eq, cond-true, cond-false, eqb-false}
 use Rattle.std.proofs.lemmas.List.Elements.{All-get_or}
 use Rattle.std.proofs.lemmas.List.FromFn.{get_or-range_with_len, length-range_with_len}
 use Rattle.std.proofs.lemmas.Option.{none-some}
 use Rattle.std.specs.List.{All, find, range_with_len}
 use Rattle.std.specs.Option.{option_map}
 use Rattle.walk_rules.specs.Seen.{is_able, is_announcing, is_chosen, seen_of, able_threads, kept_to_able}
+use Rattle.walk_rules.specs.State.{WalkState}
+use Rattle.walk_rules.specs.Strategies.{counts_down}
 use Rattle.walk_rules.specs.Urw.{urw_bound}
-use Rattle.walk_rules.specs.Walk.{is_wrong, first_wrong, wrong_by, AreChosen}
+use Rattle.walk_rules.specs.Walk.{is_wrong, is_wrong_at, counted, first_wrong, wrong_at, wrong_by, wrong_of, AreChosen, NoOtherIsWrong}
 use Rattle.walk_rules.specs.declared.seen.Seen.{Seen}
 use Rattle.walk_rules.specs.declared.seen.Seen.TheVariants.{Over, Held, Able}
 use Rattle.walk_rules.proofs.AbleThreads.{able-place, able-place-within, kept-positive}
@@ -72,25 +74,61 @@ none-below test n k none lt =
     let as_is : k ≡ 0 + k = omega arith in
     ap test as_is ∙ none-passes test 0 n none k lt
 
--- whether this thread is wrong
-abbrev pub wrong_at : List ℕ → List Seen → ℕ → Bool
-wrong_at left view thread = is_wrong (get_or left thread 0) (get_or view thread Over)
-
 -- the least thread that is wrong
 pub first-wrong-at : (left : List ℕ) (view : List Seen) (thread : ℕ) → thread < length view
-    → ((j : ℕ) → j < thread → wrong_at left view j ≡ false) → wrong_at left view thread ≡ true → first_wrong left view ≡ Some thread
-first-wrong-at left view thread lt before here = first-passes (wrong_at left view) (length view) thread lt before here
+    → ((j : ℕ) → j < thread → is_wrong_at left view j ≡ false) → is_wrong_at left view thread ≡ true → first_wrong left view ≡ Some thread
+first-wrong-at left view thread lt before here = first-passes (is_wrong_at left view) (length view) thread lt before here
 
 -- no thread is wrong
-pub first-wrong-none : (left : List ℕ) (view : List Seen) → ((j : ℕ) → j < length view → wrong_at left view j ≡ false) → first_wrong left view ≡ None
-first-wrong-none left view none = passes-none (wrong_at left view) (length view) none
+pub first-wrong-none : (left : List ℕ) (view : List Seen) → ((j : ℕ) → j < length view → is_wrong_at left view j ≡ false) → first_wrong left view ≡ None
+first-wrong-none left view none = passes-none (is_wrong_at left view) (length view) none
 
 -- what the pass over the threads finds
 pub ruleset firsts = (first-wrong-at, first-wrong-none)
 
 -- where none is found no thread is wrong
-pub none-wrong : (left : List ℕ) (view : List Seen) → first_wrong left view ≡ None → (thread : ℕ) → thread < length view → wrong_at left view thread ≡ false
-none-wrong left view none thread lt = none-below (wrong_at left view) (length view) thread none lt
+pub none-wrong : (left : List ℕ) (view : List Seen) → first_wrong left view ≡ None → (thread : ℕ) → thread < length view → is_wrong_at left view thread ≡ false
+none-wrong left view none thread lt = none-below (is_wrong_at left view) (length view) thread none lt
+
+-- ---- one thread alone
+
+-- where no other thread is wrong the least one is this, if there is one
+first-alone : (left : List ℕ) (view : List Seen) (thread : ℕ) → thread < length view
+    → ((other : ℕ) → other < length view → other ≢ thread → is_wrong_at left view other ≡ false)
+    → first_wrong left view ≡ cond (is_wrong_at left view thread) (Some thread) None
+first-alone left view thread lt others = elim (cases_Bool (is_wrong_at left view thread)) [
+  | inl wrong ↦
+      first-wrong-at left view thread lt (λ other below. others other (omega (arith, lt, below)) (λ e. omega (arith, e, below))) wrong
+      ∙ sym (cond-true (is_wrong_at left view thread) (Some thread) None wrong)
+  | inr right ↦
+      first-wrong-none left view (λ other below. elim (cases_eq other thread) [
+        | inl same ↦ ap (is_wrong_at left view) same ∙ right
+        | inr differ ↦ others other below differ
+      ])
+      ∙ sym (cond-false (is_wrong_at left view thread) (Some thread) None right)
+]
+
+none-if : {A : Type 0} (b : Bool) (x : A) → cond b (Some x) None ≡ None → b ≡ false
+none-if true x none = absurd (none-some x (sym none))
+none-if false x none = refl
+
+map-if : {A B : Type 0} (f : A → B) (b : Bool) (x : A) → option_map f (cond b (Some x) None) ≡ cond b (Some (f x)) None
+map-if f true x = refl
+map-if f false x = refl
+
+alone-by : (counting : Bool) (counts left : List ℕ) (view : List Seen) (thread : ℕ) → thread < length view
+    → ((other : ℕ) → other < length view → other ≢ thread → cond (counting && is_wrong_at left view other) (Some (counted counts left other)) None ≡ None)
+    → wrong_by counting counts left view ≡ cond (counting && is_wrong_at left view thread) (Some (counted counts left thread)) None
+alone-by true counts left view thread lt others =
+    ap (option_map (counted counts left))
+    (first-alone left view thread lt (λ other below differ. none-if (is_wrong_at left view other) (counted counts left other) (others other below differ)))
+    ∙ map-if (counted counts left) (is_wrong_at left view thread) thread
+alone-by false counts left view thread lt others = refl
+
+-- so what is found of it is what is found of all
+pub wrong-alone : (walk : WalkState) (view : List Seen) (thread : ℕ) → thread < length view → NoOtherIsWrong walk view thread
+    → wrong_of walk view ≡ wrong_at walk view thread
+wrong-alone walk view thread lt others = alone-by (counts_down walk.rule) walk.counts walk.left view thread lt others
 
 able-announces : (seen : Seen) → IsTrue (is_able seen) → IsTrue (is_announcing seen)
 able-announces Over able = able
@@ -121,9 +159,7 @@ none-mapped f (Some x) same = cc
 none-mapped f None same = refl
 
 pub right-first : (counts left : List ℕ) (view : List Seen) → wrong_by true counts left view ≡ None → first_wrong left view ≡ None
-right-first counts left view right =
-    let named : ℕ → ℕ × ℕ × ℕ = λ thread. (thread, get_or counts thread 0, get_or counts thread 0 - get_or left thread 0) in
-    none-mapped named (first_wrong left view) right
+right-first counts left view right = none-mapped (counted counts left) (first_wrong left view) right
 
 -- the bound of a pick under URW is at least 1
 pub urw-some : (counts left : List ℕ) (view : List Seen) → 0 < length (able_threads view) → wrong_by true counts left view ≡ None → AreChosen view

@@ -1,5 +1,5 @@
 -- What a strategy sees of the threads.
-use Rattle.std.specs.Prelude.{ℕ, Bool, true, false, List, [], ◌∷◌, length, slice_index_or, if◌then◌else◌}
+use Rattle.std.specs.Prelude.{ℕ, Bool, true, false, not, List, [], ◌∷◌, length, slice_index_or, if◌then◌else◌}
 use Rattle.std.specs.List.{filter, range_with_len}
 use Rattle.walk_rules.specs.declared.seen.Seen.{Seen}
 use Rattle.walk_rules.specs.declared.seen.Seen.TheVariants.{Over, Held, Able}
@@ -19,6 +19,16 @@ abbrev pub is_chosen : Seen → Bool
 is_chosen Over = false
 is_chosen (Held chosen) = chosen
 is_chosen (Able chosen) = chosen
+
+-- whether a thread can go on and its event is selected
+abbrev pub is_selected : Seen → Bool
+is_selected (Able chosen) = chosen
+is_selected _ = false
+
+-- whether a thread can go on and its event isn't selected
+abbrev pub is_unselected : Seen → Bool
+is_unselected (Able chosen) = not chosen
+is_unselected _ = false
 
 -- what is seen of a thread; one past the list has ended
 abbrev pub seen_of : List Seen → ℕ → Seen

@@ -1,5 +1,5 @@
 -- A walk after a pick and after a step, and the counts that are wrong.
-use Rattle.std.specs.Prelude.{◌≡◌, ℕ, ◌+◌, ◌-◌, ◌<◌, ◌==◌, ◌&&◌, not, ltb, Bool, List, All, length, slice_index, Option, None, Some, if◌then◌else◌, IsOk, IsSomeAnd, IsTrue, slice_get}
+use Rattle.std.specs.Prelude.{◌≡◌, ◌≢◌, ℕ, ◌+◌, ◌-◌, ◌<◌, ◌==◌, ◌&&◌, not, ltb, Bool, List, All, length, slice_index, Option, None, Some, if◌then◌else◌, IsOk, IsSomeAnd, IsTrue, slice_get}
 use Rattle.std.specs.List.{find, range_with_len}
 use Rattle.std.specs.Option.{option_map}
 use Rattle.draw_split.specs.Bag.{less_one}
@@ -45,20 +45,33 @@ is_wrong left Over = ltb 0 left
 is_wrong left (Held chosen) = chosen && (left == 0)
 is_wrong left (Able chosen) = chosen && (left == 0)
 
+-- whether this thread is so
+abbrev pub is_wrong_at : List ℕ → List Seen → ℕ → Bool
+is_wrong_at left view thread = is_wrong (slice_index left thread) (seen_of view thread)
+
 -- the least such thread
 abbrev pub first_wrong : List ℕ → List Seen → Option ℕ
-first_wrong left view = find (λ thread. is_wrong (slice_index left thread) (seen_of view thread)) (range_with_len 0 (length view))
+first_wrong left view = find (is_wrong_at left view) (range_with_len 0 (length view))
+
+-- a thread with its count and the number of events that it made
+abbrev pub counted : List ℕ → List ℕ → ℕ → ℕ × ℕ × ℕ
+counted counts left thread = (thread, slice_index counts thread, slice_index counts thread - slice_index left thread)
 
 -- where selected events are taken from the numbers left: the least such thread, with its count and the number made
 abbrev pub wrong_by : Bool → List ℕ → List ℕ → List Seen → Option (ℕ × ℕ × ℕ)
-wrong_by counting counts left view =
-    if counting
-    then option_map (λ thread. (thread, slice_index counts thread, slice_index counts thread - slice_index left thread))
-    (first_wrong left view)
-    else None
+wrong_by counting counts left view = if counting then option_map (counted counts left) (first_wrong left view) else None
 
 abbrev pub wrong_of : WalkState → List Seen → Option (ℕ × ℕ × ℕ)
 wrong_of walk view = wrong_by (counts_down walk.rule) walk.counts walk.left view
+
+-- the same of this thread alone
+abbrev pub wrong_at : WalkState → List Seen → ℕ → Option (ℕ × ℕ × ℕ)
+wrong_at walk view thread =
+    if counts_down walk.rule && is_wrong_at walk.left view thread then Some (counted walk.counts walk.left thread) else None
+
+-- no thread but this one is wrong
+abbrev pub NoOtherIsWrong : WalkState → List Seen → ℕ → Type 0
+NoOtherIsWrong walk view thread = (other : ℕ) → other < length view → other ≢ thread → wrong_at walk view other ≡ None
 
 -- each event that is announced is selected
 abbrev pub AreChosen : List Seen → Type 0

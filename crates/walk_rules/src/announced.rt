@@ -2,7 +2,7 @@ ghost use Rattle.std.specs.Prelude.{◌≡◌, ◌<◌, ◌≤◌, length, repli
 ghost use Rattle.std.specs.List.{count_by};
 ghost use Rattle.surw_base.specs.declared.limits.TheConstants.{THREADS};
 ghost use Rattle.walk_rules.specs.declared.seen.Seen.TheVariants.{Over};
-ghost use Rattle.walk_rules.specs.Seen.{is_able, is_announcing, seen_of, able_threads};
+ghost use Rattle.walk_rules.specs.Seen.{is_able, is_announcing, is_unselected, seen_of, able_threads};
 
 use crate::Seen;
 use arrayvec::ArrayVec;
@@ -13,9 +13,11 @@ use surw_base::{THREADS, ThreadNo};
 #[derive(Debug, Drop)]
 pub struct Announced {
     seen: ArrayVec<Seen, THREADS>,
-    // How many threads announce an event, and how many of these events are enabled.
+    // How many threads announce an event, how many of these events are enabled, and how many of the enabled ones
+    // aren't selected.
     announcing: usize,
     able: usize,
+    unselected: usize,
 }
 
 impl Model for Announced {
@@ -45,6 +47,7 @@ impl Announced {
             seen,
             announcing: 0,
             able: 0,
+            unselected: 0,
         }
     }
 
@@ -60,6 +63,8 @@ impl Announced {
         self.announcing -= usize::from(before.is_announcing());
         self.able += usize::from(seen.is_able());
         self.able -= usize::from(before.is_able());
+        self.unselected += usize::from(seen.is_unselected());
+        self.unselected -= usize::from(before.is_unselected());
     }
 
     /// What is seen of a thread.
@@ -90,6 +95,13 @@ impl Announced {
         ensures { result ≡ length (able_threads self.now) }
     {
         self.able
+    }
+
+    // How many threads can go on whose event isn't selected.
+    pub(crate) fn unselected(&self) -> usize
+        ensures { result ≡ count_by is_unselected self.now }
+    {
+        self.unselected
     }
 
     // What is seen of each thread, in order.

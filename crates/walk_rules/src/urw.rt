@@ -1,53 +1,74 @@
-ghost use Rattle.std.specs.Prelude.{◌≡◌, ◌<◌, ◌≤◌, ◌∷◌, [], length, sum};
+ghost use Rattle.std.specs.Prelude.{◌≡◌, ◌<◌, ◌≤◌, ◌∷◌, [], None, length, sum};
 ghost use Rattle.surw_base.specs.declared.limits.TheConstants.{THREADS, STEPS};
 ghost use Rattle.seed_draws.specs.Answers.{after_bounds, answers};
 ghost use Rattle.walk_rules.specs.Granted.{granted_at};
-ghost use Rattle.walk_rules.specs.Seen.{kept_to_able};
 ghost use Rattle.walk_rules.specs.Urw.{urw_bound, urw_thread};
-ghost use Rattle.walk_rules.specs.Walk.{GrantsAble};
+ghost use Rattle.walk_rules.specs.Walk.{first_wrong, GrantsAble};
 
 use crate::{Announced, Picked, Seen};
-use arrayvec::ArrayVec;
-use draw_split::{Weights, split_one};
+use draw_split::Weights;
 use seed_draws::Draws;
-use surw_base::THREADS;
+use surw_base::{THREADS, ThreadNo};
 
 // Picks the thread at a drawn place of the bag of the numbers left, kept to the threads that can go on.
 #[tactic(auto, using(crate::proofs::AbleThreads::picks), unfolding(seed_draws::specs::Answers::answers, seed_draws::specs::Answers::after_bounds))]
 pub(crate) fn pick<S: Draws>(left: &Weights, view: &Announced, selected: &mut S) -> Picked
     requires each { length view.now ≡ length left.now }
+    requires right { first_wrong left.now view.now ≡ None }
     requires some { 0 < urw_bound left.now view.now }
     ensures picked { result ≡ granted_at (urw_thread left.now view.now) (answers S.Draws selected.old (urw_bound left.now view.now ∷ [])) }
     ensures able { GrantsAble view.now result }
     ensures selected { selected.new ≡ after_bounds S.Draws selected.old (urw_bound left.now view.now ∷ []) }
 {
-    let (kept, bound) = kept_to_able(left.as_slice(), view.as_slice());
-    match selected.below(bound) {
-        Ok(draw) => {
-            let (thread, _offset) = split_one(kept.as_slice(), draw);
-            Picked::Grant {
-                thread,
-                forced: false,
-            }
-        }
+    match selected.below(bound(left, view)) {
+        Ok(draw) => Picked::Grant {
+            thread: kept_at(left.as_slice(), view.as_slice(), draw),
+            forced: false,
+        },
         Err(fault) => Picked::Stop(fault),
     }
 }
 
-// The numbers left, with 0 for each thread that can't go on, and their sum.
-fn kept_to_able(left: &[u32], view: &[Seen]) -> (ArrayVec<u32, THREADS>, u64)
+// The sum of the numbers left of the threads that can go on. Where no thread is held that is the sum of all, since a
+// thread that has ended has none left.
+fn bound(left: &Weights, view: &Announced) -> u64
     requires each { length view.now ≡ length left.now }
-    requires threads { length left.now ≤ THREADS }
-    requires steps { sum left.now ≤ STEPS }
-    ensures kept { result.0.items ≡ kept_to_able left.now view.now }
-    ensures sum { result.1 ≡ sum (kept_to_able left.now view.now) }
+    requires right { first_wrong left.now view.now ≡ None }
+    ensures { result ≡ urw_bound left.now view.now }
 {
-    let mut kept = ArrayVec::new();
+    if view.able() == view.announcing() {
+        return left.sum();
+    }
+    kept_sum(left.as_slice(), view.as_slice())
+}
+
+// The same, found thread by thread.
+fn kept_sum(left: &[u32], view: &[Seen]) -> u64
+    requires each { length view.now ≡ length left.now }
+    requires steps { sum left.now ≤ STEPS }
+    ensures { result ≡ urw_bound left.now view.now }
+{
     let mut sum = 0u64;
     for (thread, seen) in view.iter().enumerate() {
-        let number = seen.kept(left[thread]);
-        kept.push(number);
-        sum += u64::from(number);
+        sum += u64::from(seen.kept(left[thread]));
     }
-    (kept, sum)
+    sum
+}
+
+// The thread at a place of that bag.
+fn kept_at(left: &[u32], view: &[Seen], place: u64) -> ThreadNo
+    requires each { length view.now ≡ length left.now }
+    requires threads { length view.now ≤ THREADS }
+    requires drawn { place < urw_bound left.now view.now }
+    ensures { result ≡ urw_thread left.now view.now place }
+{
+    let mut rest = place;
+    for (thread, seen) in view.iter().enumerate() {
+        let number = u64::from(seen.kept(left[thread]));
+        if rest < number {
+            return ThreadNo::new(thread as u8).unwrap();
+        }
+        rest -= number;
+    }
+    unreachable!()
 }

@@ -6,7 +6,7 @@ ghost use Rattle.walk_rules.specs.Seen.{able_threads};
 ghost use Rattle.walk_rules.specs.State.{new_memory, new_walk, ranked_memory};
 ghost use Rattle.walk_rules.specs.UnderPct.{IsUnderPct};
 ghost use Rattle.walk_rules.specs.Strategies.{asked_at, asked_list, counts_down, pick_from};
-ghost use Rattle.walk_rules.specs.Walk.{after_pick, after_done, first_wrong, wrong_of, AreChosenUnder, AsksAble, GrantsAble, IsDepth};
+ghost use Rattle.walk_rules.specs.Walk.{after_pick, after_done, counted, first_wrong, wrong_at, wrong_of, AreChosenUnder, AsksAble, GrantsAble, IsDepth, NoOtherIsWrong};
 
 use crate::ranks::Ranks;
 use crate::{Announced, Asked, Grant, Picked, Rule, Seen, follow, pct, plain, surw, urw};
@@ -194,11 +194,30 @@ impl Walk {
         }
         match first_wrong(self.left.as_slice(), view.as_slice()) {
             None => None,
-            Some(thread) => {
-                let counted = self.counts.left(thread);
-                Some((thread, counted, counted - self.left.left(thread)))
-            }
+            Some(thread) => Some(self.counted(thread)),
         }
+    }
+
+    /// The same for one thread alone. Where no other thread is wrong it is what `wrong` finds.
+    pub fn wrong_at(&self, view: &Announced, thread: ThreadNo) -> Option<(ThreadNo, u32, u32)>
+        requires each { length view.now ≡ length self.now.counts }
+        requires thread { thread < length view.now }
+        ensures found { result ≡ wrong_at self.now view.now thread }
+        ensures alone { NoOtherIsWrong self.now view.now thread → result ≡ wrong_of self.now view.now }
+    {
+        if self.rule.counts_down() && view.get(thread).is_wrong(self.left.left(thread)) {
+            Some(self.counted(thread))
+        } else {
+            None
+        }
+    }
+
+    // A thread with its count and the number of events that it made.
+    fn counted(&self, thread: ThreadNo) -> (ThreadNo, u32, u32)
+        ensures { result ≡ counted self.now.counts self.now.left thread }
+    {
+        let counted = self.counts.left(thread);
+        (thread, counted, counted - self.left.left(thread))
     }
 
     /// Whether its rule follows a list.

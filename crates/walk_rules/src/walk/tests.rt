@@ -20,6 +20,17 @@ fn two_able() -> Announced
     view
 }
 
+// A thread that is held and one that can go on, each to a selected event, and one that has ended.
+fn one_held() -> Announced
+    ensures threads { length result ≡ 3 }
+    ensures chosen { AreChosen result }
+{
+    let mut view = Announced::new(3);
+    view.set(ThreadNo::new(0).unwrap(), Seen::Held { chosen: true });
+    view.set(ThreadNo::new(1).unwrap(), Seen::Able { chosen: true });
+    view
+}
+
 // Takes the next step, if there is one to take, and answers its pick.
 fn step(
     walk: &mut Walk,
@@ -73,6 +84,31 @@ fn a_copy_is_the_same_until_a_step(rt: HostRuntime) -> Result<(), Fail> {
     assert!(rt; walk.same(&before));
     assert_eq!(rt; step(&mut walk, &view, &mut selected, &mut other), grant(1));
     assert!(rt; !walk.same(&before));
+    Ok(())
+}
+
+#[test]
+fn a_held_thread_is_passed_over(rt: HostRuntime) -> Result<(), Fail> {
+    let view = one_held();
+    let mut other = StrictTape::new(Vec::from_slice(rt.alloc(), &[0])?);
+    let mut walk = Walk::new(rt.alloc(), Rule::Urw, Weights::new(&[2, 1, 0]))?;
+    let mut selected = StrictTape::new(Vec::from_slice(rt.alloc(), &[0])?);
+    assert_eq!(rt; step(&mut walk, &view, &mut selected, &mut other), grant(1));
+    let mut walk = Walk::new(rt.alloc(), Rule::Surw, Weights::new(&[2, 1, 0]))?;
+    let mut selected = StrictTape::new(Vec::from_slice(rt.alloc(), &[2])?);
+    assert_eq!(rt; step(&mut walk, &view, &mut selected, &mut other), grant(1));
+    assert_eq!(rt; walk.intended(), None);
+    Ok(())
+}
+
+#[test]
+fn a_wrong_count_is_found_at_its_thread(rt: HostRuntime) -> Result<(), Fail> {
+    let view = two_able();
+    let walk = Walk::new(rt.alloc(), Rule::Urw, Weights::new(&[1, 0, 0]))?;
+    let one = ThreadNo::new(1).unwrap();
+    assert_eq!(rt; walk.wrong_at(&view, ThreadNo::new(0).unwrap()), None);
+    assert_eq!(rt; walk.wrong_at(&view, one), Some((one, 0, 0)));
+    assert_eq!(rt; walk.wrong(&view), Some((one, 0, 0)));
     Ok(())
 }
 

@@ -1,4 +1,4 @@
-use Rattle.std.proofs.Common.{ap, sym, subst, ◌∙◌, arith}
+use Rattle.std.proofs.Common.{ap, sym, subst, arith}
 use Rattle.seed_draws.specs.Answers.{source_of}
 use Rattle.run_rules.specs.Setup.{IsValid}
 use Rattle.pure_run.specs.Opening.{setup_in}
