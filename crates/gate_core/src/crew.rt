@@ -1,8 +1,9 @@
 ghost use Rattle.std.specs.Prelude.{◌≡◌, ◌≤◌, true, map, IfOk, IfSome, vec_len, vec_capacity, length};
-ghost use Rattle.gate_core.specs.Gate.{IsPassOf, all_passes};
+ghost use Rattle.turn_table.specs.Seat.{RestsAgain, SeatsFrom};
+ghost use Rattle.gate_core.specs.Gate.{AllRestAgain, IsPassAt};
 
 use crate::worker::{HandsBack, Worked, work};
-use crate::{Gate, Log, Pass, Stage};
+use crate::{Log, Pass, Stage, Turnstile};
 use routine_kit::Routine;
 use seed_draws::Draws;
 use std::alloc::Global;
@@ -11,15 +12,15 @@ use std::sync::Wait;
 use std::thread::{self, PromisedHandle, Scope, Threads};
 use surw_base::OutOfMemory;
 
-/// What a worker begins with: the gate, a pass of it, and a log.
+/// What a worker begins with: the turnstile, a pass of its table, and a log.
 #[derive(Drop)]
 pub struct Job<'g, R: Routine, S: Draws, O: Draws> {
-    gate: &'g Gate<S, O, ()>,
+    turnstile: &'g Turnstile<S, O, ()>,
     /// Its pass.
     pub pass: Pass<S, O>,
     /// Its log.
     pub log: Log<R>,
-    ghost of_gate: { IsPassOf gate.now pass },
+    ghost of_table: { IsPassAt turnstile.now pass },
 }
 
 type Handle<R, S, O> = PromisedHandle<Worked<R, S, O>, HandsBack<R, S, O>>;
@@ -46,21 +47,21 @@ pub struct Ended<R: Routine, S: Draws, O: Draws> {
 }
 
 impl<'g, R: Routine, S: Draws, O: Draws> Crew<'g, R, S, O> {
-    /// A worker for each routine, with the gate's passes and a log of so much room. An error comes only where memory is
-    /// refused.
+    /// A worker for each routine, with the passes of a gate and a log of so much room. An error comes only where memory
+    /// is refused.
     pub(crate) fn new(
         alloc: Global,
-        gate: &'g Gate<S, O, ()>,
+        turnstile: &'g Turnstile<S, O, ()>,
         passes: Vec<Pass<S, O>>,
         routines: &[R],
         room: u32,
     ) -> Result<Crew<'g, R, S, O>, OutOfMemory>
-        requires passes { passes.items ≡ all_passes gate.now }
-        requires threads { gate.now.threads ≡ length routines.now }
+        requires passes { SeatsFrom turnstile.now 0 passes.items }
+        requires threads { vec_len passes ≡ length routines.now }
         ensures passes { IfOk result (λ crew. map (λ job. job.pass) crew.jobs.items ≡ passes.items) }
         ensures logs { IfOk result (λ crew. map (λ job. job.log.start) crew.jobs.items ≡ routines.now) }
     {
-        let jobs = jobs_of(alloc, gate, passes, routines, room)?;
+        let jobs = jobs_of(alloc, turnstile, passes, routines, room)?;
         let handles = Vec::with_capacity(alloc, jobs.len())?;
         let passes = Vec::with_capacity(alloc, jobs.len())?;
         let logs = Vec::with_capacity(alloc, jobs.len())?;
@@ -76,13 +77,13 @@ impl<'g, R: Routine, S: Draws, O: Draws> Crew<'g, R, S, O> {
 // A job for each routine, with the pass of its thread.
 fn jobs_of<'g, R: Routine, S: Draws, O: Draws>(
     alloc: Global,
-    gate: &'g Gate<S, O, ()>,
+    turnstile: &'g Turnstile<S, O, ()>,
     passes: Vec<Pass<S, O>>,
     routines: &[R],
     room: u32,
 ) -> Result<Vec<Job<'g, R, S, O>>, OutOfMemory>
-    requires passes { passes.items ≡ all_passes gate.now }
-    requires threads { gate.now.threads ≡ length routines.now }
+    requires passes { SeatsFrom turnstile.now 0 passes.items }
+    requires threads { vec_len passes ≡ length routines.now }
     ensures passes { IfOk result (λ jobs. map (λ job. job.pass) jobs.items ≡ passes.items) }
     ensures logs { IfOk result (λ jobs. map (λ job. job.log.start) jobs.items ≡ routines.now) }
 {
@@ -90,7 +91,11 @@ fn jobs_of<'g, R: Routine, S: Draws, O: Draws>(
     for pass in passes {
         let routine = &routines[usize::from(pass.thread().get())];
         let log = Log::new(alloc, routine, room)?;
-        jobs.push(Job { gate, pass, log })?;
+        jobs.push(Job {
+            turnstile,
+            pass,
+            log,
+        })?;
     }
     Ok(jobs)
 }
@@ -103,17 +108,22 @@ pub(crate) fn run_crew<
     O: Draws + Send,
     G: Stage,
     H: Threads + Wait + Sync,
->(rt: &H, gate: &Gate<S, O, ()>, stage: &G, crew: Crew<'_, R, S, O>) -> Option<Ended<R, S, O>>
-    ensures { IfSome result (λ ended. (ended.passes.items ≡ map (λ job. job.pass) crew.entry.jobs.items)
+>(
+    rt: &H,
+    turnstile: &Turnstile<S, O, ()>,
+    stage: &G,
+    crew: Crew<'_, R, S, O>,
+) -> Option<Ended<R, S, O>>
+    ensures { IfSome result (λ ended. AllRestAgain (map (λ job. job.pass) crew.entry.jobs.items) ended.passes.items
         × (map (λ log. log.start) ended.logs.items ≡ map (λ job. job.log.start) crew.entry.jobs.items)) }
 {
     thread::scope(
         thread::scope_env(),
         rt,
         move |scope| -> Option<Ended<R, S, O>>
-            ensures { IfSome result (λ ended. (ended.passes.items ≡ map (λ job. job.pass) crew.entry.jobs.items)
+            ensures { IfSome result (λ ended. AllRestAgain (map (λ job. job.pass) crew.entry.jobs.items) ended.passes.items
                 × (map (λ log. log.start) ended.logs.items ≡ map (λ job. job.log.start) crew.entry.jobs.items)) }
-        { run_in(scope, rt, gate, stage, crew) },
+        { run_in(scope, rt, turnstile, stage, crew) },
     )
 }
 
@@ -129,11 +139,11 @@ fn run_in<
 >(
     scope: &Scope<'s, E>,
     rt: &'s H,
-    gate: &'s Gate<S, O, ()>,
+    turnstile: &'s Turnstile<S, O, ()>,
     stage: &'s G,
     crew: Crew<'s, R, S, O>,
 ) -> Option<Ended<R, S, O>>
-    ensures { IfSome result (λ ended. (ended.passes.items ≡ map (λ job. job.pass) crew.entry.jobs.items)
+    ensures { IfSome result (λ ended. AllRestAgain (map (λ job. job.pass) crew.entry.jobs.items) ended.passes.items
         × (map (λ log. log.start) ended.logs.items ≡ map (λ job. job.log.start) crew.entry.jobs.items)) }
 {
     let Crew {
@@ -144,7 +154,7 @@ fn run_in<
     } = crew;
     let (handles, all) = start_all(scope, rt, stage, jobs, handles);
     if !all {
-        gate.stop(rt, ());
+        turnstile.stop(rt, ());
     }
     let ended = join_all(rt, handles, passes, logs);
     if all { Some(ended) } else { None }
@@ -172,7 +182,11 @@ fn start_all<
     ensures logs { result.1 ≡ true → map (λ handle. handle.promise.log.value.start) result.0.items ≡ map (λ job. job.log.start) jobs.entry.items }
 {
     for job in jobs {
-        let Job { gate, pass, log } = job;
+        let Job {
+            turnstile,
+            pass,
+            log,
+        } = job;
         let promise = HandsBack {
             log: Snapshot::of(&log),
             pass: Snapshot::of(&pass),
@@ -180,9 +194,9 @@ fn start_all<
         let started = scope.spawn_with(
             promise,
             move || -> Worked<R, S, O>
-                requires { IsPassOf gate.now pass }
-                ensures { (result.log.start ≡ log.start) × (result.pass ≡ pass) }
-            { work(rt, gate, stage, pass, log) },
+                requires { IsPassAt turnstile.now pass }
+                ensures { (result.log.start ≡ log.start) × RestsAgain pass result.pass }
+            { work(rt, turnstile, stage, pass, log) },
         );
         let Ok(handle) = started else {
             return (handles, false);
@@ -201,7 +215,7 @@ fn join_all<R: Routine, S: Draws, O: Draws, H: Threads>(
 ) -> Ended<R, S, O>
     requires passes { (vec_len passes ≡ 0) × (vec_len handles ≤ vec_capacity passes) }
     requires logs { (vec_len logs ≡ 0) × (vec_len handles ≤ vec_capacity logs) }
-    ensures passes { result.passes.items ≡ map (λ handle. handle.promise.pass.value) handles.items }
+    ensures passes { AllRestAgain (map (λ handle. handle.promise.pass.value) handles.items) result.passes.items }
     ensures logs { map (λ log. log.start) result.logs.items ≡ map (λ handle. handle.promise.log.value.start) handles.items }
 {
     for handle in handles {

@@ -1,40 +1,42 @@
-ghost use Rattle.std.specs.Prelude.{◌≡◌, ◌≤◌, [], IfOk, IfErr, true, false, if◌then◌else◌, vec_len};
+ghost use Rattle.std.specs.Prelude.{◌≡◌, ℕ, ◌<◌, ◌≤◌, [], All, IfOk, IfErr, MatchBool, false, true, length, vec_len, vec_capacity};
 ghost use Rattle.std.specs.List.{list_any};
-ghost use Rattle.surw_base.specs.declared.limits.TheConstants.{THREADS};
 ghost use Rattle.pure_run.specs.Core.{is_due};
-ghost use Rattle.gate_core.specs.Gate.{all_passes, passes_for, IsLentTo, IsPassOf};
+ghost use Rattle.turn_table.specs.Count.{below};
+ghost use Rattle.turn_table.specs.Seat.{given_to};
+ghost use Rattle.gate_core.specs.Gate.{AreAllPasses, AreNewPasses, IsBack, IsLentTo, IsPassOf, IsToldOver};
 
-use crate::lent::{Lent, wake_all};
-use crate::{Pass, Waited};
+use crate::held::Held;
+use crate::{Pass, Turnstile, Waited};
 use pure_run::Core;
 use seed_draws::Draws;
 use std::alloc::Global;
 use std::marker::Model;
-use std::sync::{Condvar, Mutex, OnceLock, Wait};
-use surw_base::{OutOfMemory, ThreadNo};
+use std::mem::replace;
+use std::sync::Wait;
+use surw_base::OutOfMemory;
+use turn_table::{TurnSeat, TurnTable};
 
 /// A gate before a core: threads wait at it, and the one that is granted the next step is let in. Each thread sleeps
 /// at a place of its own, so that a step wakes the next thread alone. `C` is what the gate is closed with.
 #[derive(Drop)]
 pub struct Gate<S: Draws, O: Draws, C: Drop> {
-    core: Mutex<Core<S, O>>,
-    places: Vec<Condvar>,
-    note: OnceLock<C>,
-    // Never written: its identity tells this gate from others.
-    name: OnceLock<()>,
+    turnstile: Turnstile<S, O, C>,
+    // The seats of the passes until those are given out, and room for them afterwards. A core without threads has one
+    // seat, which stays here.
+    seats: Vec<TurnSeat<Held<S, O>>>,
+    threads: usize,
     given: bool,
 }
 
 impl<S: Draws, O: Draws, C: Drop> Model for Gate<S, O, C> {
-    ghost use Rattle.std.specs.Prelude.{◌≤◌, vec_len};
-    ghost use Rattle.surw_base.specs.declared.limits.TheConstants.{THREADS};
-    ghost use Rattle.gate_core.specs.Gate.{GateState};
+    ghost use Rattle.std.specs.Prelude.{vec_capacity};
+    ghost use Rattle.gate_core.specs.Gate.{GateState, KeepsSeats};
 
     ghost Value = { GateState };
 
-    ghost view = { λ g. record { name = g.name.id; threads = vec_len g.places; given = g.given } };
+    ghost view = { λ g. record { table = g.turnstile; threads = g.threads; given = g.given } };
 
-    ghost invariant = { λ g. vec_len g.places ≤ THREADS };
+    ghost invariant = { λ g. KeepsSeats (record { table = g.turnstile; threads = g.threads; given = g.given }) g.seats.items (vec_capacity g.seats) };
 }
 
 impl<S: Draws, O: Draws, C: Drop> Gate<S, O, C> {
@@ -48,12 +50,15 @@ impl<S: Draws, O: Draws, C: Drop> Gate<S, O, C> {
         ensures threads { IfOk result (λ gate. gate.threads ≡ core.opening.threads) }
         ensures given { IfOk result (λ gate. gate.given ≡ false) }
     {
-        let places = places_for(alloc, core.threads())?;
+        let threads = core.threads();
+        // A table has one seat at least.
+        let count = threads.max(1) as u8;
+        let held = Held::new(alloc, core)?;
+        let (table, seats) = TurnTable::new(alloc, held, count)?;
         Ok(Gate {
-            core: Mutex::new(core),
-            places,
-            note: OnceLock::new(),
-            name: OnceLock::new(),
+            turnstile: Turnstile::new(table),
+            seats,
+            threads,
             given: false,
         })
     }
@@ -61,82 +66,97 @@ impl<S: Draws, O: Draws, C: Drop> Gate<S, O, C> {
     /// The passes of all threads, in their order, at the first call; none at a later one. An error comes only where
     /// memory is refused, and then they can be asked for again.
     pub fn passes(&mut self, alloc: Global) -> Result<Vec<Pass<S, O>>, OutOfMemory>
-        ensures passes { IfOk result (λ passes. passes.items ≡ (if self.old.given then [] else all_passes self.old)) }
+        ensures passes { IfOk result (λ passes. MatchBool self.old.given (passes.items ≡ []) (AreNewPasses self.old passes.items)) }
         ensures given { IfOk result (λ _. self.new ≡ record self.old { given = true }) }
         ensures kept { IfErr result (λ _. self.new ≡ self.old) }
     {
         if self.given {
             return Ok(Vec::new(alloc));
         }
-        let passes = passes_of(alloc, &self.name, self.places.len())?;
+        let passes = Vec::with_capacity(alloc, self.threads)?;
+        let room = Vec::with_capacity(alloc, self.threads)?;
         self.given = true;
-        Ok(passes)
+        if self.threads == 0 {
+            return Ok(passes);
+        }
+        Ok(passes_of(replace(&mut self.seats, room), passes))
+    }
+
+    /// Sets how often a thread that isn't granted a step peeks at the turn word before it sleeps; 100, where this isn't
+    /// called. Where all threads share one processor 0 is best.
+    pub fn set_peeks(&mut self, peeks: u32)
+        ensures { self.new ≡ self.old }
+    {
+        self.turnstile.set_peeks(peeks);
+    }
+
+    /// What its threads share.
+    pub fn turnstile(&self) -> &Turnstile<S, O, C>
+        ensures { result.now ≡ self.now.table }
+    {
+        &self.turnstile
     }
 
     /// Waits until the thread of the pass is granted a step, the core has a verdict or the gate is closed.
     pub fn wait_grant<'g, R: Wait>(&'g self, rt: &R, who: Pass<S, O>) -> Waited<'g, S, O, C>
         requires { IsPassOf self.now who }
-        ensures { elim result [ Mine lent ↦ IsLentTo S.Draws O.Draws who lent | Over pass ↦ pass ≡ who | Closed pass note ↦ pass ≡ who ] }
+        ensures { elim result [ Mine lent ↦ IsLentTo S.Draws O.Draws who lent | Over pass ↦ IsToldOver who pass | Closed pass note ↦ IsBack who pass ] }
     {
-        let mut guard = self.core.lock(rt);
-        for _ in rt.forever() {
-            if let Some(note) = self.note.get() {
-                return Waited::Closed(who, note);
-            }
-            if guard.verdict().is_some() {
-                return Waited::Over(who);
-            }
-            if guard.granted() == Some(who.thread()) {
-                return Waited::Mine(Lent::new(guard, &self.places, who));
-            }
-            let place = &self.places[usize::from(who.thread().get())];
-            guard = place.wait(rt, guard);
-        }
-        unreachable!()
+        self.turnstile.wait_grant(rt, who)
     }
 
-    /// Closes the gate with a note: each wait ends from then on, and the core stays as it is. It may wait for the
-    /// core. Where the gate was closed before, the first note stays and this one is dropped.
+    /// Closes the gate with a note: each wait ends from then on, and the core stays as it is. Where the gate was closed
+    /// before, the first note stays and this one is dropped. It may wait for another thread that closes the gate.
     pub fn stop<R: Wait>(&self, rt: &R, note: C) {
-        let _ = self.note.set(rt, note);
-        // Whoever looked for the note before it was there sleeps once the lock is free again.
-        drop(self.core.lock(rt));
-        wake_all(&self.places);
+        self.turnstile.stop(rt, note);
     }
 
-    /// The core, for all passes in the order of their threads.
+    /// The core, for all passes in the order of their threads. Each of its steps is a round of one of them, once, and
+    /// they have no other.
     pub fn into_core(self, passes: Vec<Pass<S, O>>) -> Core<S, O>
-        requires { passes.items ≡ all_passes self }
+        requires { AreAllPasses self passes.items }
+        ensures { (step : ℕ) → given_to step passes.items ≡ below step (length result.journal) }
     {
-        drop(passes);
-        let Gate { core, .. } = self;
-        core.into_inner()
+        let Gate {
+            turnstile,
+            seats,
+            ..
+        } = self;
+        let seats = seats_of(passes, seats);
+        turnstile.into_table().close(seats).state.into_core()
     }
 }
 
-// So many places to sleep at.
-fn places_for(alloc: Global, count: usize) -> Result<Vec<Condvar>, OutOfMemory>
-    ensures { IfOk result (λ places. vec_len places ≡ count) }
-{
-    let mut places = Vec::new(alloc);
-    for _place in 0..count {
-        places.push(Condvar::new())?;
-    }
-    Ok(places)
-}
-
-// The passes of so many threads at the gate of this name.
+// A pass for each seat, put into this empty list.
 fn passes_of<S: Draws, O: Draws>(
-    alloc: Global,
-    name: &OnceLock<()>,
-    threads: usize,
-) -> Result<Vec<Pass<S, O>>, OutOfMemory>
-    requires { threads ≤ THREADS }
-    ensures { IfOk result (λ passes. passes.items ≡ passes_for name.now.id threads) }
+    seats: Vec<TurnSeat<Held<S, O>>>,
+    mut passes: Vec<Pass<S, O>>,
+) -> Vec<Pass<S, O>>
+    requires rest { All (λ seat. seat.view.turn ≡ false) seats.items }
+    requires room { (vec_len passes ≡ 0) × (vec_len seats ≤ vec_capacity passes) }
+    ensures { result.items ≡ seats.items }
 {
-    let mut passes = Vec::new(alloc);
-    for thread in 0..threads {
-        passes.push(Pass::new(name, ThreadNo::new(thread as u8).unwrap()))?;
+    for seat in seats {
+        passes.push_reserved(Pass::new(seat));
     }
-    Ok(passes)
+    passes
+}
+
+// The seats of the passes, put into a list of seats in the place of those; without passes the seats that are in it.
+fn seats_of<S: Draws, O: Draws>(
+    passes: Vec<Pass<S, O>>,
+    mut seats: Vec<TurnSeat<Held<S, O>>>,
+) -> Vec<TurnSeat<Held<S, O>>>
+    requires { vec_len passes ≤ vec_capacity seats }
+    ensures all { 0 < vec_len passes → result.items ≡ passes.items }
+    ensures none { vec_len passes ≡ 0 → result.items ≡ seats.items }
+{
+    if passes.is_empty() {
+        return seats;
+    }
+    seats.clear();
+    for pass in passes {
+        seats.push_reserved(pass.into_seat());
+    }
+    seats
 }

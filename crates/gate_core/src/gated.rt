@@ -1,5 +1,7 @@
-ghost use Rattle.std.specs.Prelude.{◌≡◌, ◌≤◌, IfOk, IfSome, IsTrue, map, vec_len};
+ghost use Rattle.std.specs.Prelude.{◌≡◌, ◌≤◌, [], IfOk, IfSome, IsTrue, false, map, vec_len};
+ghost use Rattle.std.specs.List.{list_any};
 ghost use Rattle.surw_base.specs.declared.limits.TheConstants.{THREADS};
+ghost use Rattle.pure_run.specs.Core.{is_due};
 ghost use Rattle.run_rules.specs.Plan.{script_of, IsValidPlan};
 ghost use Rattle.run_rules.specs.Run.{IsRun};
 ghost use Rattle.selected_order.specs.KeepsOrder.{KeepsOrder};
@@ -12,7 +14,7 @@ use routine_kit::Routine;
 use seed_draws::Draws;
 use std::alloc::Global;
 use std::sync::Wait;
-use std::thread::Threads;
+use std::thread::{Threads, available_parallelism};
 use surw_base::{OutOfMemory, ThreadNo};
 
 /// Makes the run of a valid plan, with a thread of its own for each routine. It takes all memory before the first
@@ -51,14 +53,41 @@ fn run_of_threads<
     let mut core = Core::open(alloc, plan)?;
     let routines = plan.routines.as_slice();
     say_first_words(&mut core, routines);
-    let mut gate = Gate::new(alloc, core)?;
+    let mut gate = gate_of(rt, alloc, core)?;
     let passes = gate.passes(alloc)?;
-    let crew = Crew::new(alloc, &gate, passes, routines, plan.max_steps)?;
-    let Some(ended) = run_crew(rt, &gate, stage, crew) else {
+    let turnstile = gate.turnstile();
+    let crew = Crew::new(alloc, turnstile, passes, routines, plan.max_steps)?;
+    let Some(ended) = run_crew(rt, turnstile, stage, crew) else {
         return Ok(None);
     };
     let core = gate.into_core(ended.passes);
     Ok(run_of(core, plan, &ended.logs))
+}
+
+// A gate at which a thread peeks only where others can run beside it.
+fn gate_of<H: Threads, S: Draws, O: Draws>(
+    rt: &H,
+    alloc: Global,
+    core: Core<S, O>,
+) -> Result<Gate<S, O, ()>, OutOfMemory>
+    requires said { list_any is_due core.words ≡ false }
+    requires first { core.journal ≡ [] }
+    ensures threads { IfOk result (λ gate. gate.threads ≡ core.opening.threads) }
+    ensures given { IfOk result (λ gate. gate.given ≡ false) }
+{
+    let mut gate = Gate::new(alloc, core)?;
+    if !has_processors(rt) {
+        gate.set_peeks(0);
+    }
+    Ok(gate)
+}
+
+// Whether threads can run side by side, as far as the system tells.
+fn has_processors<H: Threads>(rt: &H) -> bool {
+    match available_parallelism(rt) {
+        Ok(count) => count.get() > 1,
+        Err(_) => true,
+    }
 }
 
 // The run of a core, where it is the plan's: the core has a verdict, was opened as the plan, and agrees with each log.

@@ -1,116 +1,97 @@
-ghost use Rattle.std.specs.Prelude.{◌≡◌, ◌+◌, Some, true, false, length, slice_get};
-ghost use Rattle.std.specs.Sync.Mutex.{mutex_guard_value};
-ghost use Rattle.pure_run.specs.Core.{IsStepTo, granted_of, setup_by};
+ghost use Rattle.std.specs.Prelude.{◌≡◌, Some, true, false, length};
+ghost use Rattle.pure_run.specs.Core.{IsStepTo, setup_by};
+ghost use Rattle.turn_table.specs.Turn.{HoldsTurn};
+ghost use Rattle.gate_core.specs.Gate.{IsBack, last_round};
+ghost use Rattle.gate_core.specs.Held.{next_thread};
 
 use crate::Pass;
+use crate::held::Held;
 use event_class::Event;
-use pure_run::Core;
 use seed_draws::Draws;
 use std::marker::Model;
-use std::sync::{Condvar, MutexGuard};
 use surw_base::ThreadNo;
+use turn_table::{Rounded, Turn, TurnSeat, TurnTable};
 
 /// The core, lent to the thread that is granted the next step. That thread makes the step, says its next word and
-/// hands the core on.
-#[derive(Drop)]
+/// hands the core on. It can't be let go otherwise.
 pub struct Lent<'g, S: Draws, O: Draws> {
-    guard: MutexGuard<'g, Core<S, O>>,
-    places: &'g Vec<Condvar>,
-    pass: Pass<S, O>,
-    step: u32,
+    table: &'g TurnTable<Held<S, O>>,
+    turn: Turn<Held<S, O>>,
+    seat: TurnSeat<Held<S, O>>,
+    thread: ThreadNo,
     performed: bool,
 }
 
 impl<'g, S: Draws, O: Draws> Model for Lent<'g, S, O> {
-    ghost use Rattle.std.specs.Sync.Mutex.{mutex_guard_value};
     ghost use Rattle.gate_core.specs.Gate.{LentState, IsLent};
 
     ghost Value = { LentState S O };
 
-    ghost view = { λ l. record { core = mutex_guard_value l.guard; pass = l.pass; step = l.step; performed = l.performed } };
+    ghost view = { λ l. record { core = l.turn.state; seat = l.seat; thread = l.thread; step = l.turn.round; performed = l.performed } };
 
-    ghost invariant = { λ l. IsLent S.Draws O.Draws (record { core = mutex_guard_value l.guard; pass = l.pass; step = l.step; performed = l.performed }) };
+    ghost invariant = { λ l. IsLent S.Draws O.Draws l.table.now.id (record { core = l.turn.state; seat = l.seat; thread = l.thread; step = l.turn.round; performed = l.performed }) };
 }
 
 impl<'g, S: Draws, O: Draws> Lent<'g, S, O> {
-    // The core behind this lock, which grants the thread of the pass its next step. `places` is where the threads sleep.
+    // The core in a turn that the seat was given at this table.
     pub(crate) fn new(
-        guard: MutexGuard<'g, Core<S, O>>,
-        places: &'g Vec<Condvar>,
-        pass: Pass<S, O>,
+        table: &'g TurnTable<Held<S, O>>,
+        turn: Turn<Held<S, O>>,
+        seat: TurnSeat<Held<S, O>>,
     ) -> Lent<'g, S, O>
-        requires { granted_of (setup_by S.Draws O.Draws (mutex_guard_value guard)) (mutex_guard_value guard) ≡ Some pass.thread }
-        ensures { result ≡ record {
-          core = mutex_guard_value guard.entry;
-          pass = pass;
-          step = length (mutex_guard_value guard.entry).journal;
-          performed = false;
-        } }
+        requires table { seat.table ≡ table.now.id }
+        requires holds { HoldsTurn seat.view turn }
+        requires last { last_round seat.view.rounds ≡ Some turn.round }
+        requires round { length turn.state.journal ≡ turn.round }
+        requires granted { next_thread S.Draws O.Draws turn.state ≡ seat.view.number }
+        ensures lent { result ≡ record { core = turn.state; seat = seat; thread = result.thread; step = turn.round; performed = false } }
+        ensures thread { seat.view.number ≡ Some result.thread }
     {
-        let step = guard.len();
+        let thread = seat.thread();
         Lent {
-            guard,
-            places,
-            pass,
-            step,
+            table,
+            turn,
+            seat,
+            thread,
             performed: false,
         }
     }
 
-    /// The number of the step that it was lent for, from 0.
+    /// The number of the step that it was lent for, from 0: the last round of its seat.
     pub fn step(&self) -> u32
-        ensures { result ≡ self.now.step }
+        ensures number { result ≡ self.now.step }
+        ensures last { last_round self.now.seat.view.rounds ≡ Some result }
     {
-        self.step
+        self.turn.round()
     }
 
     /// Makes the step, and answers the reply to the event that the thread announced.
     pub fn perform(&mut self) -> u64
         requires { self.old.performed ≡ false }
-        ensures step { IsStepTo (setup_by S.Draws O.Draws self.old.core) self.old.core self.old.pass.thread result self.new.core }
+        ensures step { IsStepTo (setup_by S.Draws O.Draws self.old.core) self.old.core self.old.thread result self.new.core }
         ensures performed { self.new ≡ record self.old { core = self.new.core; performed = true } }
     {
-        let thread = self.pass.thread();
         self.performed = true;
-        let core = &mut *self.guard;
-        core.perform(thread)
+        self.turn.state().perform(self.thread)
     }
 
-    /// Says the thread's next word, the event that it announces or that it has ended, gives the core back, and wakes
-    /// the thread that is granted the next step, or all where there is a verdict.
+    /// Says the thread's next word, the event that it announces or that it has ended, and hands the core on to the
+    /// thread that is granted the next step, which is woken, or wakes all where there is a verdict.
     pub fn hand_on(self, next: Option<Event>) -> Pass<S, O>
         requires { self.performed ≡ true }
-        ensures { result ≡ self.entry.pass }
+        ensures back { IsBack self.entry.seat result }
+        ensures last { last_round result.view.rounds ≡ Some self.entry.step }
     {
         let Lent {
-            mut guard,
-            places,
-            pass,
-            ..
+            table,
+            mut turn,
+            mut seat,
+            thread,
+            performed: _,
         } = self;
-        guard.say(pass.thread(), next);
-        let granted = guard.granted();
-        drop(guard);
-        wake_next(places, granted);
-        pass
-    }
-}
-
-// Wakes the thread that is granted the next step, or every thread where none is.
-fn wake_next(places: &Vec<Condvar>, granted: Option<ThreadNo>) {
-    match granted {
-        Some(thread) => {
-            if let Some(place) = places.get(usize::from(thread.get())) {
-                place.notify_all();
-            }
-        }
-        None => wake_all(places),
-    }
-}
-
-/// Wakes every thread.
-pub(crate) fn wake_all(places: &Vec<Condvar>) {
-    for place in places.iter() {
-        place.notify_all();
+        turn.state().say(thread, next);
+        let to = turn.state().granted();
+        table.pass(&mut seat, turn, to);
+        Pass::new(seat)
     }
 }

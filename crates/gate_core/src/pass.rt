@@ -1,45 +1,51 @@
-ghost use Rattle.std.specs.Prelude.{◌≡◌};
+ghost use Rattle.std.specs.Prelude.{◌≡◌, false, Some};
 
+use crate::held::Held;
 use seed_draws::Draws;
-use std::marker::{Model, PhantomData};
-use std::snapshot::Snapshot;
-use std::sync::OnceLock;
+use std::marker::Model;
 use surw_base::ThreadNo;
+use turn_table::TurnSeat;
 
-/// A thread's right to wait at one gate. There is one for each thread of the gate's core, and it can't be copied.
+/// A thread's right to wait at one gate: its seat, which holds no turn. There is one for each thread of the gate's core,
+/// and it can't be copied.
 #[derive(Drop)]
 pub struct Pass<S: Draws, O: Draws> {
-    thread: ThreadNo,
-    gate: Snapshot<OnceLock<()>>,
-    selected: PhantomData<S>,
-    other: PhantomData<O>,
+    seat: TurnSeat<Held<S, O>>,
 }
 
 impl<S: Draws, O: Draws> Model for Pass<S, O> {
-    ghost use Rattle.gate_core.specs.Gate.{PassState};
+    ghost use Rattle.std.specs.Prelude.{◌≡◌, false};
+    ghost use Rattle.turn_table.specs.Seat.{SeatState};
 
-    ghost Value = { PassState };
+    ghost Value = { SeatState };
 
-    ghost view = { λ p. record { gate = p.gate.value.id; thread = p.thread } };
+    ghost view = { λ p. p.seat };
+
+    ghost invariant = { λ p. p.seat.view.turn ≡ false };
 }
 
 impl<S: Draws, O: Draws> Pass<S, O> {
-    // The pass of a thread at the gate of this name.
-    pub(crate) fn new(name: &OnceLock<()>, thread: ThreadNo) -> Pass<S, O>
-        ensures { result ≡ record { gate = name.now.id; thread = thread } }
+    // The pass of this seat.
+    pub(crate) fn new(seat: TurnSeat<Held<S, O>>) -> Pass<S, O>
+        requires { seat.view.turn ≡ false }
+        ensures { result ≡ seat }
     {
-        Pass {
-            thread,
-            gate: Snapshot::of(name),
-            selected: PhantomData,
-            other: PhantomData,
-        }
+        Pass { seat }
     }
 
-    /// Its thread.
-    pub fn thread(&self) -> ThreadNo
-        ensures { result ≡ self.now.thread }
+    // Its seat.
+    pub(crate) fn into_seat(self) -> TurnSeat<Held<S, O>>
+        ensures seat { result ≡ self }
+        ensures rests { result.view.turn ≡ false }
     {
-        self.thread
+        self.seat
+    }
+
+    /// Its thread. What is true of every pass is told here: its seat holds no turn.
+    pub fn thread(&self) -> ThreadNo
+        ensures thread { self.now.view.number ≡ Some result }
+        ensures rests { self.now.view.turn ≡ false }
+    {
+        self.seat.thread()
     }
 }

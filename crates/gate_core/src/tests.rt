@@ -1,7 +1,7 @@
 ghost use Rattle.std.specs.Prelude.{◌≡◌, ◌≤◌, IfOk, false, length, sum, vec_len};
 ghost use Rattle.surw_base.specs.declared.limits.TheConstants.{STEPS, THREADS};
 ghost use Rattle.run_rules.specs.Plan.{IsValidPlan};
-ghost use Rattle.gate_core.specs.Gate.{all_passes};
+ghost use Rattle.gate_core.specs.Gate.{AreAllPasses};
 
 mod counting;
 mod meeting;
@@ -146,7 +146,7 @@ fn each_is_told<W: Wait>(
     passes: Vec<Pass<StrictTape, LooseTape>>,
     note: u64,
 ) -> bool
-    requires { passes.items ≡ all_passes gate.now }
+    requires { AreAllPasses gate.now passes.items }
 {
     for pass in passes {
         match gate.wait_grant(rt, pass) {
@@ -155,7 +155,12 @@ fn each_is_told<W: Wait>(
                     return false;
                 }
             }
-            Waited::Mine(_) | Waited::Over(_) => return false,
+            Waited::Over(_) => return false,
+            Waited::Mine(mut lent) => {
+                lent.perform();
+                lent.hand_on(None);
+                return false;
+            }
         }
     }
     true

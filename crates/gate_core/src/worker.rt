@@ -1,7 +1,8 @@
 ghost use Rattle.std.specs.Prelude.{◌≡◌, false};
-ghost use Rattle.gate_core.specs.Gate.{IsPassOf};
+ghost use Rattle.turn_table.specs.Seat.{RestsAgain};
+ghost use Rattle.gate_core.specs.Gate.{IsBack, IsPassAt};
 
-use crate::{Gate, Lent, Log, Pass, Stage, Waited};
+use crate::{Lent, Log, Pass, Stage, Turnstile, Waited};
 use routine_kit::Routine;
 use seed_draws::Draws;
 use std::snapshot::Snapshot;
@@ -13,39 +14,40 @@ use std::thread::Promise;
 pub struct Worked<R: Routine, S: Draws, O: Draws> {
     /// Its events and replies.
     pub log: Log<R>,
-    /// The pass that it began with.
+    /// Its pass, as it began with it but for the rounds that it was given.
     pub pass: Pass<S, O>,
 }
 
-/// A worker's promise: to hand back the pass that it begins with, and a log of the routine that it begins with.
+/// A worker's promise: to hand back the pass that it begins with, which rests again, and a log of the routine that it
+/// begins with.
 #[derive(Drop)]
 pub struct HandsBack<R: Routine, S: Draws, O: Draws> {
     /// The log at the start.
     pub log: Snapshot<Log<R>>,
-    /// The pass.
+    /// The pass at the start.
     pub pass: Snapshot<Pass<S, O>>,
 }
 
 impl<R: Routine, S: Draws, O: Draws> Promise<Worked<R, S, O>> for HandsBack<R, S, O> {
-    ghost kept_by = { λ promise worked. (worked.log.start ≡ promise.log.value.start) × (worked.pass ≡ promise.pass.value) };
+    ghost kept_by = { λ promise worked. (worked.log.start ≡ promise.log.value.start) × RestsAgain promise.pass.value worked.pass };
 }
 
 /// Makes the steps of one thread, each when it is granted, until the core has a verdict or the gate is closed.
 pub(crate) fn work<R: Routine, S: Draws, O: Draws, C: Drop, G: Stage, W: Wait>(
     rt: &W,
-    gate: &Gate<S, O, C>,
+    turnstile: &Turnstile<S, O, C>,
     stage: &G,
     pass: Pass<S, O>,
     mut log: Log<R>,
 ) -> Worked<R, S, O>
-    requires { IsPassOf gate.now pass }
-    ensures { (result.log.start ≡ log.start) × (result.pass ≡ pass) }
+    requires { IsPassAt turnstile.now pass }
+    ensures { (result.log.start ≡ log.start) × RestsAgain pass result.pass }
 {
     let thread = pass.thread();
     stage.born(thread);
     let mut pass = pass;
     for _ in rt.forever() {
-        match gate.wait_grant(rt, pass) {
+        match turnstile.wait_grant(rt, pass) {
             Waited::Mine(lent) => {
                 let step = lent.step();
                 stage.at_turn(thread, step);
@@ -64,7 +66,7 @@ fn make_step<R: Routine, S: Draws, O: Draws>(
     log: &mut Log<R>,
 ) -> Pass<S, O>
     requires { lent.performed ≡ false }
-    ensures pass { result ≡ lent.entry.pass }
+    ensures pass { IsBack lent.entry.seat result }
     ensures start { log.new.start ≡ log.old.start }
 {
     let reply = lent.perform();

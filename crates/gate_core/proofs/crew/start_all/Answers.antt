@@ -18,6 +18,6 @@ returns-in_default-clause-few g c =
 
 pub spawn_with-started-requires-send-T : goal.spawn_with-started-requires-send-T
 spawn_with-started-requires-send-T g c κs within =
-    let sent = worked_send (param 1 g.row.R) (param 2 g.row.S) (param 3 g.row.O) g.R.Routine g.S.Draws g.O.Draws c.type_bounds.send-R in
+    let sent = worked_send (param 1 g.row.R) (param 2 g.row.S) (param 3 g.row.O) g.R.Routine g.S.Draws g.O.Draws c.type_bounds.send-R c.type_bounds.send-S c.type_bounds.send-O in
     param_send 3 (arg-4-3 g.row.E g.row.R g.row.S g.row.O g.row.G g.row.W g.E.laws g.R.laws g.S.laws g.O.laws g.G.laws g.W.laws g.R.Routine g.R.Routine-dict g.S.Draws g.S.Draws-dict g.O.Draws g.O.Draws-dict g.G.Stage g.G.Stage-dict g.W.Wait g.W.Wait-dict g.R.Destruct-dict g.S.Destruct-dict g.O.Destruct-dict κs)
     (arg_send _ yes (worked.the_row (param 1 g.row.R) (param 2 g.row.S) (param 3 g.row.O) g.R.Routine g.S.Draws g.O.Draws) sent)

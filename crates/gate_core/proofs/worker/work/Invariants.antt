@@ -1,8 +1,9 @@
 use Rattle.std.proofs.Common.{◌≡◌}
-use Rattle.gate_core.specs.Gate.{IsPassOf}
+use Rattle.turn_table.specs.Seat.{RestsAgain}
 use Rattle.gate_core.proofs.worker.work.Given as goal
 
+-- the pass is at rest again, and the log is of its routine
 abbrev pub invariant-loop : goal.invariant-loop
 invariant-loop g l =
-    (l.pass ≡ l.fn.pass) × (l.log.start ≡ l.fn.log.start) × IsPassOf l.gate l.fn.pass
+    RestsAgain l.fn.pass l.pass × (l.log.start ≡ l.fn.log.start)
     × (goal.iterator-loop g).can_next l.iterator' × (goal.iterator-loop g).is_finite l.iterator'
