@@ -3,7 +3,7 @@ use Rattle.std.specs.Prelude.{◌≡◌, ℕ, ◌+◌, ◌%◌, ◌<◌, ◌≤�
 use Rattle.atomic_table.specs.Seated.{TableId}
 use Rattle.seed_draws.specs.declared.draws.Draws.{Ghosts}
 use Rattle.turn_table.specs.Seat.{SeatState, SeatsFrom, AreFresh, RestsAgain}
-use Rattle.turn_table.specs.Turn.{HoldsTurn}
+use Rattle.turn_table.specs.Turn.{TurnState, HoldsTurn}
 use Rattle.pure_run.specs.declared.word.Word.TheVariants.{Due}
 use Rattle.pure_run.specs.Core.{CoreState}
 use Rattle.gate_core.specs.Held.{next_thread}
@@ -65,6 +65,10 @@ pub record LentState (S O : Type 0) : Type 0 where
   pub thread : ℕ
   pub step : ℕ
   pub performed : Bool
+
+-- the core of a turn, lent to this thread with this seat for the round of the turn
+abbrev pub lent_state : {S O : Type 0} → TurnState (CoreState S O) → SeatState → ℕ → Bool → LentState S O
+lent_state turn seat thread performed = record { core = turn.state; seat = seat; thread = thread; step = turn.round; performed = performed }
 
 -- the last of some rounds
 abbrev pub last_round : List ℕ → Option ℕ

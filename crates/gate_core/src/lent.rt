@@ -23,13 +23,13 @@ pub struct Lent<'g, S: Draws, O: Draws> {
 }
 
 impl<'g, S: Draws, O: Draws> Model for Lent<'g, S, O> {
-    ghost use Rattle.gate_core.specs.Gate.{LentState, IsLent};
+    ghost use Rattle.gate_core.specs.Gate.{LentState, lent_state, IsLent};
 
     ghost Value = { LentState S O };
 
-    ghost view = { λ l. record { core = l.turn.state; seat = l.seat; thread = l.thread; step = l.turn.round; performed = l.performed } };
+    ghost view = { λ l. lent_state l.turn l.seat l.thread l.performed };
 
-    ghost invariant = { λ l. IsLent S.Draws O.Draws l.table.now.id (record { core = l.turn.state; seat = l.seat; thread = l.thread; step = l.turn.round; performed = l.performed }) };
+    ghost invariant = { λ l. IsLent S.Draws O.Draws l.table.now.id (lent_state l.turn l.seat l.thread l.performed) };
 }
 
 impl<'g, S: Draws, O: Draws> Lent<'g, S, O> {
