@@ -157,15 +157,15 @@ module _ {S O : Type 0} (draws_s : Ghosts S) (draws_o : Ghosts O) (core : CoreSt
         }
 
     -- the core after it
-    pub core-decided : IsKept setup core → (next : Next) (then : Running S O)
-        → next ≡ decision draws_s draws_o core running
-        → then.walk ≡ walk_then (is_drawn_at next) (pick_by draws_s draws_o running) running.walk
-        → then.selected ≡ after_bounds draws_s running.selected (bounds_by (is_drawn_at next) (pick_by draws_s draws_o running).selected_bounds)
-        → then.other ≡ after_bounds draws_o running.other (bounds_by (is_drawn_at next) (pick_by draws_s draws_o running).other_bounds)
-        → then ≡ record running { walk = then.walk; selected = then.selected; other = then.other }
-        → IsAbleNext running.view next → IsCore draws_s draws_o core (record then { next = next })
-    core-decided kept next then next_is walk_is selected_is other_is rest able =
-        let drawn : Bool = is_drawn_at next in
+    pub core-decided : IsKept setup core → (then : Running S O)
+        → then.next ≡ decision draws_s draws_o core running
+        → then.walk ≡ walk_then (is_drawn_at then.next) (pick_by draws_s draws_o running) running.walk
+        → then.selected ≡ after_bounds draws_s running.selected (bounds_by (is_drawn_at then.next) (pick_by draws_s draws_o running).selected_bounds)
+        → then.other ≡ after_bounds draws_o running.other (bounds_by (is_drawn_at then.next) (pick_by draws_s draws_o running).other_bounds)
+        → then ≡ record running { walk = then.walk; selected = then.selected; other = then.other; next = then.next }
+        → IsAbleNext running.view then.next → IsCore draws_s draws_o core then
+    core-decided kept then next_is walk_is selected_is other_is rest able =
+        let drawn : Bool = is_drawn_at then.next in
         record {
           kept = kept;
           decided = record {
@@ -191,7 +191,7 @@ module _ {S O : Type 0} (draws_s : Ghosts S) (draws_o : Ghosts O) (core : CoreSt
               failed = ap (λ (r : Running S O). r.failed.items) rest ∙ ready.failed;
             };
             next = next_is ∙ decision-there;
-            able = subst (λ v. IsAbleNext v next) (sym (ap (λ (r : Running S O). r.view) rest)) able;
+            able = subst (λ v. IsAbleNext v then.next) (sym (ap (λ (r : Running S O). r.view) rest)) able;
           };
         }
 

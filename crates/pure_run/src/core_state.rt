@@ -56,7 +56,7 @@ impl<S: Draws, O: Draws> Core<S, O> {
         ensures { self.new ≡ after_word self.old thread event }
     {
         self.history.say(thread, event);
-        self.running.say(&self.history, thread, event);
+        self.running.say(&self.history, thread, &event);
     }
 
     /// The thread that takes the next step. None exactly while a word is due and where there is a verdict.

@@ -65,37 +65,40 @@ impl<S: Draws, O: Draws> Running<S, O> {
             failed,
             next: Next::Due,
         };
-        running.next = running.decide(history);
+        running.decide(history);
         Ok(running)
     }
 
-    // What comes next: a word while some are due, else a verdict or the pick of the strategy.
+    // Decides what comes next: a word while some are due, else a verdict or the pick of the strategy.
     #[tactic(auto, unfolding(seed_draws::specs::Answers::after_bounds))]
-    fn decide(&mut self, history: &History<S, O>) -> Next
+    fn decide(&mut self, history: &History<S, O>)
         requires { IsDecidable history.now self.old }
-        ensures next { result ≡ decision S.Draws O.Draws history.now self.old }
-        ensures walk { self.new.walk ≡ walk_then (is_drawn_at result) (pick_by S.Draws O.Draws self.old) self.old.walk }
+        ensures next { self.new.next ≡ decision S.Draws O.Draws history.now self.old }
+        ensures walk { self.new.walk ≡ walk_then (is_drawn_at self.new.next) (pick_by S.Draws O.Draws self.old) self.old.walk }
         ensures selected { self.new.selected ≡ after_bounds S.Draws self.old.selected
-            (bounds_by (is_drawn_at result) (pick_by S.Draws O.Draws self.old).selected_bounds) }
+            (bounds_by (is_drawn_at self.new.next) (pick_by S.Draws O.Draws self.old).selected_bounds) }
         ensures other { self.new.other ≡ after_bounds O.Draws self.old.other
-            (bounds_by (is_drawn_at result) (pick_by S.Draws O.Draws self.old).other_bounds) }
-        ensures rest { self.new ≡ record self.old { walk = self.new.walk; selected = self.new.selected; other = self.new.other } }
-        ensures able { IsAbleNext self.old.view result }
+            (bounds_by (is_drawn_at self.new.next) (pick_by S.Draws O.Draws self.old).other_bounds) }
+        ensures rest { self.new
+            ≡ record self.old { walk = self.new.walk; selected = self.new.selected; other = self.new.other; next = self.new.next } }
+        ensures able { IsAbleNext self.old.view self.new.next }
     {
         if self.due > 0 {
-            return Next::Due;
+            self.next = Next::Due;
+            return;
         }
         if let Some(verdict) = self.stop(history) {
-            return Next::Stopped(verdict);
+            self.next = Next::Stopped(verdict);
+            return;
         }
         let step = history.len();
-        match self
+        self.next = match self
             .walk
             .pick(step, &self.view, &mut self.selected, &mut self.other)
         {
             Picked::Grant { thread, forced } => Next::Granted(Grant { thread, forced }),
             Picked::Stop(fault) => Next::Stopped(Verdict::Draw { step, fault }),
-        }
+        };
     }
 
     // Why the run stops before a draw is asked for, by the causes in their order.
@@ -142,16 +145,16 @@ impl<S: Draws, O: Draws> Running<S, O> {
 
     // The parts after a thread has said its word, which was due. With the last word that is due it is decided what comes
     // next.
-    pub(crate) fn say(&mut self, history: &History<S, O>, thread: ThreadNo, event: Option<Event>)
+    pub(crate) fn say(&mut self, history: &History<S, O>, thread: ThreadNo, event: &Option<Event>)
         requires core { IsCore S.Draws O.Draws (before_word history.now thread) self.old }
-        requires said { slice_get history.now.words thread ≡ Some (Said event) }
+        requires said { slice_get history.now.words thread ≡ Some (Said event.now) }
         ensures { IsCore S.Draws O.Draws history.now self.new }
     {
         let opening = history.opening();
         let seen = look_at(&self.world, opening.selection(), event);
         self.view.set(thread, seen);
         self.due -= 1;
-        self.next = self.decide(history);
+        self.decide(history);
     }
 
     // The event of the thread that is granted its step, and whether the step is forced.

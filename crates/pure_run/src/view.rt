@@ -13,14 +13,14 @@ use test_world::World;
 use walk_rules::{Announced, Seen};
 
 // What a strategy sees of a thread that has said this.
-pub(crate) fn look_at(world: &World, selection: &Selection, word: Option<Event>) -> Seen
-    ensures { result ≡ seen_word world.now selection.now word }
+pub(crate) fn look_at(world: &World, selection: &Selection, word: &Option<Event>) -> Seen
+    ensures { result ≡ seen_word world.now selection.now word.now }
 {
     match word {
         None => Seen::Over,
         Some(event) => {
-            let chosen = selection.has(&event);
-            if world.enabled(&event) {
+            let chosen = selection.has(event);
+            if world.enabled(event) {
                 Seen::Able { chosen }
             } else {
                 Seen::Held { chosen }

@@ -70,14 +70,14 @@ ready g c =
     ∙ ap (λ w. map (failed_in w 0) c.monitors.result.now) world
     ∙ ap (λ m. map (failed_in (new_world opening.size) 0) m) (c.monitors.ensures ∙ ap (λ o. o.monitors) is)))
 
-pub decide-running-requires : goal.decide-running-requires
-decide-running-requires g c =
-    let at = goal.at.decide-running-requires g c in
+pub decide-requires : goal.decide-requires
+decide-requires g c =
+    let at = goal.at.decide-requires g c in
     can-decide g.S.Draws g.O.Draws (core g at.Start) (running g at.After-new-view) (ready g at.After-new-view) (kept g at.Start)
 
 pub returns : goal.returns
 returns g c =
     let at = goal.at.returns g c in
     core-decided g.S.Draws g.O.Draws (core g at.Start) (running g at.After-new-view) (ready g at.After-new-view) (kept g at.Start)
-    c.decide-running.result c.decide-running.new.self
-    c.decide-running.ensures.next c.decide-running.ensures.walk c.decide-running.ensures.selected c.decide-running.ensures.other c.decide-running.ensures.rest c.decide-running.ensures.able
+    c.decide.new.self
+    c.decide.ensures.next c.decide.ensures.walk c.decide.ensures.selected c.decide.ensures.other c.decide.ensures.rest c.decide.ensures.able

@@ -13,14 +13,14 @@ use Rattle.pure_run.proofs.running.Running.say.Goals as goal
 pub set-requires : goal.set-requires
 set-requires g c =
     let core = c.args.history.now in
-    view-within g.S.Draws g.O.Draws (before_word core c.args.thread) c.args.self.now c.args.thread c.args.event c.requires.core
-    (due-before core c.args.thread c.args.event c.requires.said)
+    view-within g.S.Draws g.O.Draws (before_word core c.args.thread) c.args.self.now c.args.thread c.args.event.now c.requires.core
+    (due-before core c.args.thread c.args.event.now c.requires.said)
 
 pub overflow_sub-self : goal.overflow_sub-self
 overflow_sub-self g c =
     let core = c.args.history.now in
-    due-some g.S.Draws g.O.Draws (before_word core c.args.thread) c.args.self.now c.args.thread c.args.event c.requires.core
-    (due-before core c.args.thread c.args.event c.requires.said)
+    due-some g.S.Draws g.O.Draws (before_word core c.args.thread) c.args.self.now c.args.thread c.args.event.now c.requires.core
+    (due-before core c.args.thread c.args.event.now c.requires.said)
 
 -- the core after the word, and the parts that it is decided by
 abbrev core : (g : Over) (c : After-set g) → CoreState g.row.S.Denot g.row.O.Denot
@@ -35,28 +35,28 @@ running g c = record c.args.self.now { due = c.args.self.now.due - 1; view = c.s
 kept : (g : Over) (c : After-set g) → IsKept (setup_by g.S.Draws g.O.Draws (core g c)) (core g c)
 kept g c =
     subst (λ (k : CoreState g.row.S.Denot g.row.O.Denot). IsKept (setup_by g.S.Draws g.O.Draws (core g c)) k)
-    (word-again (core g c) c.args.thread c.args.event c.requires.said)
-    (kept-word (setup_by g.S.Draws g.O.Draws (before g c)) (before g c) c.args.thread c.args.event c.requires.core.kept
-    (due-before (core g c) c.args.thread c.args.event c.requires.said))
+    (word-again (core g c) c.args.thread c.args.event.now c.requires.said)
+    (kept-word (setup_by g.S.Draws g.O.Draws (before g c)) (before g c) c.args.thread c.args.event.now c.requires.core.kept
+    (due-before (core g c) c.args.thread c.args.event.now c.requires.said))
 
 ready : (g : Over) (c : After-set g) → AreParts g.S.Draws g.O.Draws (setup_by g.S.Draws g.O.Draws (core g c)) (core g c) false (running g c)
 ready g c =
     subst (λ (k : CoreState g.row.S.Denot g.row.O.Denot). AreParts g.S.Draws g.O.Draws (setup_by g.S.Draws g.O.Draws (core g c)) k false (running g c))
-    (word-again (core g c) c.args.thread c.args.event c.requires.said)
-    (parts-word g.S.Draws g.O.Draws (before g c) c.args.self.now c.args.thread c.args.event c.requires.core
-    (due-before (core g c) c.args.thread c.args.event c.requires.said) (running g c) refl refl
+    (word-again (core g c) c.args.thread c.args.event.now c.requires.said)
+    (parts-word g.S.Draws g.O.Draws (before g c) c.args.self.now c.args.thread c.args.event.now c.requires.core
+    (due-before (core g c) c.args.thread c.args.event.now c.requires.said) (running g c) refl refl
     (c.set.ensures
     ∙ ap (λ seen. set c.args.self.now.view c.args.thread seen)
-    (c.look_at-seen.ensures ∙ ap (λ items. seen_word c.args.self.now.world items c.args.event) (c.selection.ensures ∙ ap (λ o. o.selection) c.opening-opening.ensures)))
+    (c.look_at-seen.ensures ∙ ap (λ items. seen_word c.args.self.now.world items c.args.event.now) (c.selection.ensures ∙ ap (λ o. o.selection) c.opening-opening.ensures)))
     refl refl refl refl)
 
-pub decide-self-requires : goal.decide-self-requires
-decide-self-requires g c =
-    let set = (goal.at.decide-self-requires g c).After-set in
+pub decide-requires : goal.decide-requires
+decide-requires g c =
+    let set = (goal.at.decide-requires g c).After-set in
     can-decide g.S.Draws g.O.Draws (core g set) (running g set) (ready g set) (kept g set)
 
 pub returns : goal.returns
 returns g c =
     let said = (goal.at.returns g c).After-set in
-    core-decided g.S.Draws g.O.Draws (core g said) (running g said) (ready g said) (kept g said) c.decide-self.result c.decide-self.new.self
-    c.decide-self.ensures.next c.decide-self.ensures.walk c.decide-self.ensures.selected c.decide-self.ensures.other c.decide-self.ensures.rest c.decide-self.ensures.able
+    core-decided g.S.Draws g.O.Draws (core g said) (running g said) (ready g said) (kept g said) c.decide.new.self
+    c.decide.ensures.next c.decide.ensures.walk c.decide.ensures.selected c.decide.ensures.other c.decide.ensures.rest c.decide.ensures.able
