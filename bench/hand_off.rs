@@ -1,17 +1,30 @@
-// The hand-off of a run on threads alone, as an ordinary Rust program. Reads a report from the file named second, and
-// has as many threads as it names make its steps in its order, which do nothing. They hand on as the first word says:
+// The hand-off of a run on threads alone, as an ordinary Rust program: `hand_off WAY LINES REPORT`. Reads a report, and
+// has as many threads as it names make its steps in its order. A step adds one to a number in each of so many cache
+// lines that all threads share, which may be none; a run's step changes some twenty. They hand on in one of these ways:
 //
 //     lock   one lock, and for each thread a condition variable at which it sleeps
 //     word   one atomic word, which is the number of the next step; a thread peeks at it a hundred times, and parks
+//     park   the same without a peek
 //
 // Prints the nanoseconds a step, the start of the threads left out.
 use std::hint::spin_loop;
-use std::sync::atomic::{AtomicUsize, Ordering::SeqCst};
+use std::sync::atomic::{AtomicU64, AtomicUsize, Ordering::Relaxed, Ordering::SeqCst};
 use std::sync::{Barrier, Condvar, Mutex, OnceLock};
 use std::thread::{self, Thread};
 use std::time::{Duration, Instant};
 
 const PEEKS: u32 = 100;
+
+// A number in a cache line of its own.
+#[repr(align(64))]
+struct Line(AtomicU64);
+
+// Makes a step. Who makes it has the turn, so no step is lost.
+fn make_step(lines: &[Line]) {
+    for Line(number) in lines {
+        number.store(number.load(Relaxed) + 1, Relaxed);
+    }
+}
 
 // Starts a thread for each number below `threads`, and takes the time from when all have begun to when all have ended.
 fn time<F: Fn(usize, &Barrier) + Sync>(threads: usize, work: F) -> Duration {
@@ -28,7 +41,7 @@ fn time<F: Fn(usize, &Barrier) + Sync>(threads: usize, work: F) -> Duration {
     start.elapsed()
 }
 
-fn by_lock(order: &[usize], threads: usize) -> Duration {
+fn by_lock(order: &[usize], threads: usize, lines: &[Line]) -> Duration {
     let places: Vec<Condvar> = (0..threads).map(|_| Condvar::new()).collect();
     let made = Mutex::new(0);
     time(threads, |me, begin| {
@@ -41,6 +54,7 @@ fn by_lock(order: &[usize], threads: usize) -> Duration {
             if *step == order.len() {
                 return;
             }
+            make_step(lines);
             *step += 1;
             let next = order.get(*step).copied();
             drop(step);
@@ -52,11 +66,11 @@ fn by_lock(order: &[usize], threads: usize) -> Duration {
     })
 }
 
-fn by_word(order: &[usize], threads: usize) -> Duration {
+fn by_word(order: &[usize], threads: usize, lines: &[Line], peeks: u32) -> Duration {
     let places: Vec<OnceLock<Thread>> = (0..threads).map(|_| OnceLock::new()).collect();
     let word = AtomicUsize::new(0);
     let comes_soon = |me: usize| {
-        for _ in 0..PEEKS {
+        for _ in 0..peeks {
             if order.get(word.load(SeqCst)).is_none_or(|next| *next == me) {
                 return true;
             }
@@ -78,6 +92,7 @@ fn by_word(order: &[usize], threads: usize) -> Duration {
                 }
                 continue;
             }
+            make_step(lines);
             word.store(step + 1, SeqCst);
             match order.get(step + 1) {
                 Some(next) => places[*next].get().unwrap().unpark(),
@@ -89,16 +104,19 @@ fn by_word(order: &[usize], threads: usize) -> Duration {
 
 fn main() {
     let words: Vec<String> = std::env::args().collect();
-    let report = std::fs::read_to_string(&words[2]).unwrap();
+    let report = std::fs::read_to_string(&words[3]).unwrap();
     let order: Vec<usize> = report
         .lines()
         .filter_map(|line| line.strip_prefix("step "))
         .map(|line| line.split(' ').nth(1).unwrap().parse().unwrap())
         .collect();
     let threads = order.iter().max().map_or(0, |most| most + 1);
+    let lines: Vec<Line> = (0..words[2].parse().unwrap()).map(|_| Line(AtomicU64::new(0))).collect();
     let time = match words[1].as_str() {
-        "lock" => by_lock(&order, threads),
-        _ => by_word(&order, threads),
+        "lock" => by_lock(&order, threads, &lines),
+        "word" => by_word(&order, threads, &lines, PEEKS),
+        _ => by_word(&order, threads, &lines, 0),
     };
+    assert!(lines.iter().all(|Line(number)| number.load(Relaxed) == order.len() as u64));
     println!("{}", time.as_nanos() / order.len().max(1) as u128);
 }
