@@ -83,7 +83,7 @@ impl<S: Draws, O: Draws, C: Drop> Gate<S, O, C> {
     }
 
     /// Sets how often a thread that isn't granted a step peeks at the turn word before it sleeps; 100, where this isn't
-    /// called. Where all threads share one processor 0 is best.
+    /// called. Where there are fewer processors than threads 0 is best.
     pub fn set_peeks(&mut self, peeks: u32)
         ensures { self.new ≡ self.old }
     {

@@ -64,7 +64,7 @@ fn run_of_threads<
     Ok(run_of(core, plan, &ended.logs))
 }
 
-// A gate at which a thread peeks only where others can run beside it.
+// A gate at which a thread peeks only where all can run side by side: the processor that it peeks on is wanted else.
 fn gate_of<H: Threads, S: Draws, O: Draws>(
     rt: &H,
     alloc: Global,
@@ -75,17 +75,18 @@ fn gate_of<H: Threads, S: Draws, O: Draws>(
     ensures threads { IfOk result (λ gate. gate.threads ≡ core.opening.threads) }
     ensures given { IfOk result (λ gate. gate.given ≡ false) }
 {
+    let threads = core.threads();
     let mut gate = Gate::new(alloc, core)?;
-    if !has_processors(rt) {
+    if !has_processors(rt, threads) {
         gate.set_peeks(0);
     }
     Ok(gate)
 }
 
-// Whether threads can run side by side, as far as the system tells.
-fn has_processors<H: Threads>(rt: &H) -> bool {
+// Whether there is a processor for each of so many threads, as far as the system tells.
+fn has_processors<H: Threads>(rt: &H, threads: usize) -> bool {
     match available_parallelism(rt) {
-        Ok(count) => count.get() > 1,
+        Ok(count) => count.get() >= threads,
         Err(_) => true,
     }
 }

@@ -92,13 +92,17 @@ impl<S: Draws, O: Draws> Running<S, O> {
             return;
         }
         let step = history.len();
-        self.next = match self
+        match self
             .walk
             .pick(step, &self.view, &mut self.selected, &mut self.other)
         {
-            Picked::Grant { thread, forced } => Next::Granted(Grant { thread, forced }),
-            Picked::Stop(fault) => Next::Stopped(Verdict::Draw { step, fault }),
-        };
+            Picked::Grant { thread, forced } => {
+                self.next = Next::Granted(Grant { thread, forced });
+            }
+            Picked::Stop(fault) => {
+                self.next = Next::Stopped(Verdict::Draw { step, fault });
+            }
+        }
     }
 
     // Why the run stops before a draw is asked for, by the causes in their order.

@@ -5,6 +5,7 @@ pub mod FallingPriorities
 pub mod FirstPriorities
 pub mod FollowLaws
 pub mod LinkSearch
+pub mod MarkedThreads
 pub mod NarrowThreads
 pub mod NodeOrder
 pub mod PassingThreads
@@ -17,6 +18,7 @@ pub mod StepChanges
 pub mod StrategyLaws
 pub mod SurwLaws
 pub mod SurwValues
+pub mod ThreadSets
 pub mod UnheldThreads
 pub mod UrwLaws
 pub mod UrwValues

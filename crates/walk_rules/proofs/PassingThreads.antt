@@ -1,5 +1,5 @@
--- Threads that pass a test of their number and of what is seen of them, and the way to the one at a place among these.
-use Rattle.std.proofs.Common.{◌≡◌, ℕ, suc, ◌+◌, ◌<◌, Bool, true, false, cond, List, [], ◌∷◌, length, get_or, drop, refl, ap, sym, subst, ◌∙◌, arith}
+-- Threads that pass a test of their number and of what is seen of them.
+use Rattle.std.proofs.Common.{◌≡◌, ℕ, suc, ◌+◌, ◌<◌, Bool, true, false, cond, List, [], ◌∷◌, length, get_or, refl, ap, ◌∙◌, arith}
 use Rattle.std.specs.List.{filter, range_with_len}
 use Rattle.walk_rules.specs.Seen.{seen_of}
 use Rattle.walk_rules.specs.declared.seen.Seen.{Seen}
@@ -34,14 +34,3 @@ passing-all test view =
 pub length-more : (passes : Bool) (first : ℕ) (rest : List ℕ) → length (cond passes (first ∷ rest) rest) ≡ cond passes 1 0 + length rest
 length-more true first rest = omega arith
 length-more false first rest = omega arith
-
--- these are all of them, and so many are still to be passed from this thread on to the one at a place
-pub record IsBefore (test : ℕ → Seen → Bool) (view : List Seen) (all : List ℕ) (place thread rest : ℕ) : Type 0 where
-  pub within : rest < length (passing_from test thread (drop thread view))
-  pub there : get_or (passing_from test thread (drop thread view)) rest 0 ≡ get_or all place 0
-
--- at the first thread as many as the place says
-pub before-first : (test : ℕ → Seen → Bool) (view : List Seen) (all : List ℕ) (place : ℕ) → all ≡ passing_from test 0 view → place < length all
-    → IsBefore test view all place 0 place
-before-first test view all place are lt =
-    record { within = subst (λ threads. place < length threads) are lt; there = ap (λ threads. get_or threads place 0) (sym are) }

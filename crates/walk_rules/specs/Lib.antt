@@ -11,6 +11,7 @@ pub mod State
 pub mod Strategies
 pub mod Strategy
 pub mod Surw
+pub mod ThreadSet
 pub mod UnderPct
 pub mod Urw
 pub mod Walk

@@ -1,10 +1,12 @@
-ghost use Rattle.std.specs.Prelude.{◌≡◌, ◌<◌, ◌≤◌, length, replicate, slice_set};
+ghost use Rattle.std.specs.Prelude.{◌≡◌, ◌<◌, ◌≤◌, length, map, replicate, slice_index, slice_set};
 ghost use Rattle.std.specs.List.{count_by};
+ghost use Rattle.std.specs.Simd.Lanes.{mask_l};
 ghost use Rattle.surw_base.specs.declared.limits.TheConstants.{THREADS};
 ghost use Rattle.walk_rules.specs.declared.seen.Seen.TheVariants.{Over};
 ghost use Rattle.walk_rules.specs.Seen.{is_able, is_announcing, is_unselected, seen_of, able_threads};
 
 use crate::Seen;
+use crate::thread_set::ThreadSet;
 use arrayvec::ArrayVec;
 use std::marker::Model;
 use surw_base::{THREADS, ThreadNo};
@@ -13,11 +15,11 @@ use surw_base::{THREADS, ThreadNo};
 #[derive(Debug, Drop)]
 pub struct Announced {
     seen: ArrayVec<Seen, THREADS>,
-    // How many threads announce an event, how many of these events are enabled, and how many of the enabled ones
-    // aren't selected.
-    announcing: usize,
-    able: usize,
-    unselected: usize,
+    // The threads that announce an event, those of them whose event is enabled, and those of these whose event isn't
+    // selected.
+    announcing: ThreadSet,
+    able: ThreadSet,
+    unselected: ThreadSet,
 }
 
 impl Model for Announced {
@@ -26,11 +28,11 @@ impl Model for Announced {
 
     ghost Value = { List Seen };
 
-    ghost use Rattle.walk_rules.specs.Announced.{AreCounted};
+    ghost use Rattle.walk_rules.specs.Announced.{AreKept};
 
     ghost view = { λ announced. announced.seen.items };
 
-    ghost invariant = { AreCounted };
+    ghost invariant = { AreKept };
 }
 
 impl Announced {
@@ -45,13 +47,14 @@ impl Announced {
         }
         Announced {
             seen,
-            announcing: 0,
-            able: 0,
-            unselected: 0,
+            announcing: ThreadSet::new(),
+            able: ThreadSet::new(),
+            unselected: ThreadSet::new(),
         }
     }
 
     /// Puts what is seen of a thread.
+    #[tactic(auto, using(crate::proofs::MarkedThreads::marks))]
     pub fn set(&mut self, thread: ThreadNo, seen: Seen)
         requires { thread < length self.old }
         ensures { self.new ≡ slice_set self.old thread seen }
@@ -59,12 +62,11 @@ impl Announced {
         let place = usize::from(thread.get());
         let before = self.seen[place];
         self.seen[place] = seen;
-        self.announcing += usize::from(seen.is_announcing());
-        self.announcing -= usize::from(before.is_announcing());
-        self.able += usize::from(seen.is_able());
-        self.able -= usize::from(before.is_able());
-        self.unselected += usize::from(seen.is_unselected());
-        self.unselected -= usize::from(before.is_unselected());
+        self.announcing
+            .change(thread, before.is_announcing(), seen.is_announcing());
+        self.able.change(thread, before.is_able(), seen.is_able());
+        self.unselected
+            .change(thread, before.is_unselected(), seen.is_unselected());
     }
 
     /// What is seen of a thread.
@@ -87,19 +89,28 @@ impl Announced {
     pub fn announcing(&self) -> usize
         ensures { result ≡ count_by is_announcing self.now }
     {
-        self.announcing
+        self.announcing.len()
     }
 
     /// How many threads can go on.
     pub fn able(&self) -> usize
         ensures { result ≡ length (able_threads self.now) }
     {
-        self.able
+        self.able.len()
     }
 
-    // How many threads can go on whose event isn't selected.
-    pub(crate) fn unselected(&self) -> usize
-        ensures { result ≡ count_by is_unselected self.now }
+    // The thread at a place among those that can go on.
+    pub(crate) fn able_at(&self, place: u64) -> ThreadNo
+        requires { place < length (able_threads self.now) }
+        ensures { result ≡ slice_index (able_threads self.now) place }
+    {
+        self.able.at(place)
+    }
+
+    // The threads that can go on whose event isn't selected.
+    pub(crate) fn unselected(&self) -> ThreadSet
+        ensures marked { result.bits ≡ mask_l (map is_unselected self.now) }
+        ensures threads { length self.now ≤ THREADS }
     {
         self.unselected
     }

@@ -11,6 +11,7 @@ mod ranks;
 mod rule;
 mod seen;
 mod surw;
+mod thread_set;
 mod urw;
 mod walk;
 

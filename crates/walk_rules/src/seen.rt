@@ -1,5 +1,5 @@
-ghost use Rattle.std.specs.Prelude.{◌≡◌, ◌&&◌, ◌||◌, not, if◌then◌else◌};
-ghost use Rattle.walk_rules.specs.Seen.{is_able, is_announcing, is_chosen, is_selected, is_unselected};
+ghost use Rattle.std.specs.Prelude.{◌≡◌, if◌then◌else◌};
+ghost use Rattle.walk_rules.specs.Seen.{is_able, is_announcing, is_selected, is_unselected};
 ghost use Rattle.walk_rules.specs.Walk.{is_wrong};
 
 /// What a strategy sees of a thread. `chosen` says that its event is selected.
@@ -47,16 +47,6 @@ impl Seen {
     {
         match self {
             Seen::Able { chosen } => !chosen,
-            _ => false,
-        }
-    }
-
-    // Whether the thread can go on, and its event isn't selected or the thread is intended.
-    pub(crate) fn is_candidate(self, intended: bool) -> bool
-        ensures { result ≡ (is_able self && (not (is_chosen self) || intended)) }
-    {
-        match self {
-            Seen::Able { chosen } => !chosen || intended,
             _ => false,
         }
     }

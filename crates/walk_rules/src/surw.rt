@@ -1,11 +1,12 @@
-ghost use Rattle.std.specs.Prelude.{◌≡◌, ◌<◌, ◌≤◌, ◌∷◌, [], length, slice_index};
+ghost use Rattle.std.specs.Prelude.{◌≡◌, ◌^◌, ◌<◌, ◌∷◌, [], length};
 ghost use Rattle.surw_base.specs.declared.limits.TheConstants.{THREADS};
 ghost use Rattle.seed_draws.specs.Answers.{after_bounds, answers};
 ghost use Rattle.walk_rules.specs.Seen.{able_threads, seen_of};
-ghost use Rattle.walk_rules.specs.Surw.{candidate_at, candidates, intention_bounds, intention_by, is_forced, is_intended, narrow};
+ghost use Rattle.walk_rules.specs.Surw.{candidate_at, candidates, intention_bounds, intention_by, narrow};
+ghost use Rattle.walk_rules.specs.ThreadSet.{members};
 ghost use Rattle.walk_rules.specs.Walk.{GrantsAble};
 
-use crate::plain::able_at;
+use crate::thread_set::ThreadSet;
 use crate::{Announced, Picked, Seen};
 use draw_split::{Weights, split_one};
 use seed_draws::{DrawFault, Draws};
@@ -51,37 +52,36 @@ pub(crate) fn choose<O: Draws>(
     ensures other { other.new ≡ after_bounds O.Draws other.old (length (candidates intended view.now) ∷ []) }
 {
     let narrow = narrow(view, &intended);
-    if narrow == 0 {
+    let count = narrow.len();
+    if count == 0 {
         return match other.below(view.able() as u64) {
             Ok(draw) => Picked::Grant {
-                thread: able_at(view.as_slice(), draw),
+                thread: view.able_at(draw),
                 forced: true,
             },
             Err(fault) => Picked::Stop(fault),
         };
     }
-    match other.below(narrow as u64) {
+    match other.below(count as u64) {
         Ok(draw) => Picked::Grant {
-            thread: narrow_at(view.as_slice(), &intended, draw),
+            thread: narrow.at(draw),
             forced: false,
         },
         Err(fault) => Picked::Stop(fault),
     }
 }
 
-// How many narrow candidates there are: the threads that can go on whose event isn't selected, and the intended one if
-// it can go on.
-#[tactic(auto, using(crate::proofs::NarrowThreads::narrow_lengths))]
-fn narrow(view: &Announced, intended: &Option<ThreadNo>) -> usize
-    ensures { result ≡ length (narrow intended.now view.now) }
+// The narrow candidates: the threads that can go on whose event isn't selected, and the intended one if it can go on.
+fn narrow(view: &Announced, intended: &Option<ThreadNo>) -> ThreadSet
+    ensures threads { members THREADS 0 result.bits ≡ narrow intended.now view.now }
+    ensures few { result.bits < 2 ^ THREADS }
 {
-    match *intended {
-        Some(thread) => {
-            let seen = seen_at(view.as_slice(), thread);
-            view.unselected() + usize::from(seen.is_selected())
-        }
-        None => view.unselected(),
+    let mut narrow = view.unselected();
+    if let Some(thread) = *intended {
+        let seen = seen_at(view.as_slice(), thread);
+        narrow.change(thread, false, seen.is_selected());
     }
+    narrow
 }
 
 // What is seen of a thread. One past the list has ended.
@@ -91,32 +91,4 @@ fn seen_at(view: &[Seen], thread: ThreadNo) -> Seen
     view.get(usize::from(thread.get()))
         .copied()
         .unwrap_or(Seen::Over)
-}
-
-// The narrow candidate at a place.
-fn narrow_at(view: &[Seen], intended: &Option<ThreadNo>, place: u64) -> ThreadNo
-    requires threads { length view.now ≤ THREADS }
-    requires drawn { place < length (narrow intended.now view.now) }
-    ensures { result ≡ slice_index (narrow intended.now view.now) place }
-{
-    let mut rest = place;
-    for (thread, seen) in view.iter().enumerate() {
-        if seen.is_candidate(is_intended(intended, thread)) {
-            if rest == 0 {
-                return ThreadNo::new(thread as u8).unwrap();
-            }
-            rest -= 1;
-        }
-    }
-    unreachable!()
-}
-
-// Whether the thread of this number is the intended one.
-fn is_intended(intended: &Option<ThreadNo>, number: usize) -> bool
-    ensures { result ≡ is_intended intended.now number }
-{
-    match *intended {
-        None => false,
-        Some(thread) => usize::from(thread.get()) == number,
-    }
 }
