@@ -1,6 +1,6 @@
 // The hand-off of a run on threads alone, as an ordinary Rust program: `hand_off WAY LINES REPORT`. Reads a report, and
 // has as many threads as it names make its steps in its order. A step adds one to a number in each of so many cache
-// lines that all threads share, which may be none; a run's step changes some twenty. They hand on in one of these ways:
+// lines that all threads share, and in as many of its thread's own; LINES may be 0. They hand on in one of these ways:
 //
 //     lock   one lock, and for each thread a condition variable at which it sleeps
 //     word   one atomic word, which is the number of the next step; a thread peeks at it a hundred times, and parks
@@ -19,9 +19,13 @@ const PEEKS: u32 = 100;
 #[repr(align(64))]
 struct Line(AtomicU64);
 
-// Makes a step. Who makes it has the turn, so no step is lost.
-fn make_step(lines: &[Line]) {
-    for Line(number) in lines {
+fn lines_of(count: usize) -> Vec<Line> {
+    (0..count).map(|_| Line(AtomicU64::new(0))).collect()
+}
+
+// Makes a step on these lines. Who makes it has the turn, so none is lost.
+fn make_step(shared: &[Line], own: &[Line]) {
+    for Line(number) in shared.iter().chain(own) {
         number.store(number.load(Relaxed) + 1, Relaxed);
     }
 }
@@ -45,6 +49,7 @@ fn by_lock(order: &[usize], threads: usize, lines: &[Line]) -> Duration {
     let places: Vec<Condvar> = (0..threads).map(|_| Condvar::new()).collect();
     let made = Mutex::new(0);
     time(threads, |me, begin| {
+        let own = lines_of(lines.len());
         begin.wait();
         loop {
             let mut step = made.lock().unwrap();
@@ -54,7 +59,7 @@ fn by_lock(order: &[usize], threads: usize, lines: &[Line]) -> Duration {
             if *step == order.len() {
                 return;
             }
-            make_step(lines);
+            make_step(lines, &own);
             *step += 1;
             let next = order.get(*step).copied();
             drop(step);
@@ -80,6 +85,7 @@ fn by_word(order: &[usize], threads: usize, lines: &[Line], peeks: u32) -> Durat
     };
     time(threads, |me, begin| {
         places[me].set(thread::current()).unwrap();
+        let own = lines_of(lines.len());
         begin.wait();
         loop {
             let step = word.load(SeqCst);
@@ -92,7 +98,7 @@ fn by_word(order: &[usize], threads: usize, lines: &[Line], peeks: u32) -> Durat
                 }
                 continue;
             }
-            make_step(lines);
+            make_step(lines, &own);
             word.store(step + 1, SeqCst);
             match order.get(step + 1) {
                 Some(next) => places[*next].get().unwrap().unpark(),
@@ -111,7 +117,7 @@ fn main() {
         .map(|line| line.split(' ').nth(1).unwrap().parse().unwrap())
         .collect();
     let threads = order.iter().max().map_or(0, |most| most + 1);
-    let lines: Vec<Line> = (0..words[2].parse().unwrap()).map(|_| Line(AtomicU64::new(0))).collect();
+    let lines = lines_of(words[2].parse().unwrap());
     let time = match words[1].as_str() {
         "lock" => by_lock(&order, threads, &lines),
         "word" => by_word(&order, threads, &lines, PEEKS),
