@@ -3,7 +3,7 @@
 // lines that all threads share, and in as many of its thread's own; LINES may be 0. They hand on in one of these ways:
 //
 //     lock   one lock, and for each thread a condition variable at which it sleeps
-//     word   one atomic word, which is the number of the next step; a thread peeks at it a hundred times, and parks
+//     word   one atomic word, which is the number of the next step; a thread peeks at it a thousand times, and parks
 //     park   the same without a peek
 //
 // Prints the nanoseconds a step, the start of the threads left out.
@@ -13,7 +13,7 @@ use std::sync::{Barrier, Condvar, Mutex, OnceLock};
 use std::thread::{self, Thread};
 use std::time::{Duration, Instant};
 
-const PEEKS: u32 = 100;
+const PEEKS: u32 = 1000;
 
 // A number in a cache line of its own.
 #[repr(align(64))]

@@ -82,7 +82,7 @@ impl<S: Draws, O: Draws, C: Drop> Gate<S, O, C> {
         Ok(passes_of(replace(&mut self.seats, room), passes))
     }
 
-    /// Sets how often a thread that isn't granted a step peeks at the turn word before it sleeps; 100, where this isn't
+    /// Sets how often a thread that isn't granted a step peeks at the turn word before it sleeps; 1000, where this isn't
     /// called. Where there are fewer processors than threads 0 is best.
     pub fn set_peeks(&mut self, peeks: u32)
         ensures { self.new ≡ self.old }

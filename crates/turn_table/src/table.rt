@@ -12,8 +12,9 @@ use std::marker::Model;
 use std::thread::Parker;
 use surw_base::{OutOfMemory, ThreadNo};
 
-// How often a seat peeks at the turn word before its thread sleeps, where no other number is set.
-const PEEKS: u32 = 100;
+// How often a seat peeks at the turn word before its thread sleeps, where no other number is set. It takes some 15
+// microseconds, a few times as long as to put a thread to sleep and wake it.
+const PEEKS: u32 = 1000;
 
 /// A state that threads have in turn. A word names the seat that is next, as `32 * round + holder`; the holder 31 means
 /// that no round follows. The state lies in a slot, from which only that seat can take it.
@@ -68,8 +69,8 @@ impl<T: Rounded> TurnTable<T> {
         Ok((table, list))
     }
 
-    /// Sets how often a seat that isn't named peeks at the turn word before its thread sleeps; 100, where this isn't
-    /// called. Where all threads share one processor 0 is best, since whoever is named can't run meanwhile.
+    /// Sets how often a seat that isn't named peeks at the turn word before its thread sleeps; 1000, where this isn't
+    /// called. Where there are fewer processors than threads 0 is best, since whoever is named may want the processor.
     pub fn set_peeks(&mut self, peeks: u32)
         ensures { self.new ≡ self.old }
     {
