@@ -34,6 +34,12 @@ pub record IsOwn {R : Type 0} (behaviour : Ghosts R) (journal : List Entry) (wor
   pub items : log.items ≡ made_by thread journal
   pub word : slice_index_or words thread None ≡ behaviour.announced log.now
 
+-- the log has so many items, which follow from its routine, and this is what it announces now
+pub record EndsAt {R : Type 0} (behaviour : Ghosts R) (log : LogState R) (made : ℕ) (word : Option Event) : Type 0 where
+  pub follows : Follows behaviour log.start log.items log.now
+  pub count : length log.items ≡ made
+  pub says : word ≡ behaviour.announced log.now
+
 -- each log is that of its thread
 abbrev pub AreOwn : {R : Type 0} → Ghosts R → List Entry → List (Option Event) → List (LogState R) → Type 0
 AreOwn behaviour journal words logs = (thread : ℕ) (log : LogState _) → slice_get logs thread ≡ Some log → IsOwn behaviour journal words thread log

@@ -1,13 +1,12 @@
-ghost use Rattle.std.specs.Prelude.{◌≡◌, ◌≤◌, [], IfOk, IfSome, IsTrue, false, map, vec_len};
+ghost use Rattle.std.specs.Prelude.{◌≡◌, [], IfOk, IfSome, false, map};
 ghost use Rattle.std.specs.List.{list_any};
-ghost use Rattle.surw_base.specs.declared.limits.TheConstants.{THREADS};
 ghost use Rattle.pure_run.specs.Core.{is_due};
 ghost use Rattle.run_rules.specs.Plan.{script_of, IsValidPlan};
 ghost use Rattle.run_rules.specs.Run.{IsRun};
 ghost use Rattle.selected_order.specs.KeepsOrder.{KeepsOrder};
-ghost use Rattle.gate_core.specs.Log.{AreOwn};
 
 use crate::crew::{Crew, run_crew};
+use crate::own_logs::all_own;
 use crate::{Gate, Log, Stage};
 use pure_run::{Core, Plan, Run, run_inline, say_first_words};
 use routine_kit::Routine;
@@ -15,7 +14,7 @@ use seed_draws::Draws;
 use std::alloc::Global;
 use std::sync::Wait;
 use std::thread::{Threads, available_parallelism};
-use surw_base::{OutOfMemory, ThreadNo};
+use surw_base::OutOfMemory;
 
 /// Makes the run of a valid plan, with a thread of its own for each routine. It takes all memory before the first
 /// step, and waits until each thread has ended. Whatever the threads' timing, the run is the plan's: where a thread
@@ -106,18 +105,9 @@ fn run_of<R: Routine, S: Draws, O: Draws>(
         return None;
     }
     let run = core.finish();
-    if all_own(&run, logs) { Some(run) } else { None }
-}
-
-// Whether each log is that of its thread in the run.
-fn all_own<R: Routine>(run: &Run, logs: &Vec<Log<R>>) -> bool
-    requires { vec_len logs.now ≤ THREADS }
-    ensures { IsTrue result → AreOwn R.Routine run.now.journal run.now.words logs.now.items }
-{
-    for (thread, log) in logs.iter().enumerate() {
-        if !log.is_own(run, ThreadNo::new(thread as u8).unwrap()) {
-            return false;
-        }
+    if all_own(&run, logs.as_slice()) {
+        Some(run)
+    } else {
+        None
     }
-    true
 }

@@ -8,6 +8,7 @@ mod gated;
 mod held;
 mod lent;
 mod log;
+mod own_logs;
 mod pass;
 mod stage;
 mod turnstile;

@@ -1,14 +1,13 @@
-ghost use Rattle.std.specs.Prelude.{◌≡◌, ◌<◌, ◌≤◌, IsTrue, Some, IfOk, [], ◌∷◌, ◌++◌, length, slice_get};
-ghost use Rattle.surw_base.specs.declared.limits.TheConstants.{STEPS};
-ghost use Rattle.gate_core.specs.Log.{IsOwn, made_by};
+ghost use Rattle.std.specs.Prelude.{◌≡◌, ◌<◌, IsTrue, Some, IfOk, [], ◌∷◌, ◌++◌, length, slice_get};
+ghost use Rattle.gate_core.specs.Log.{EndsAt};
 
 use event_class::Event;
-use pure_run::{Entry, Run};
+use pure_run::Entry;
 use routine_kit::Routine;
 use std::alloc::Global;
 use std::marker::Model;
 use std::snapshot::Snapshot;
-use surw_base::{OutOfMemory, ThreadNo};
+use surw_base::OutOfMemory;
 
 /// A worker's own list of its events and replies, with the routine that makes them. Each event is what the routine
 /// announces after the replies before it.
@@ -80,49 +79,34 @@ impl<R: Routine> Log<R> {
         self.items[k as usize]
     }
 
-    /// Adds the event that the routine announces with this reply, where it announces one and there is room.
-    pub(crate) fn take(&mut self, reply: u64)
+    // Adds the event that the routine announces, if any, with this reply, where there is room.
+    pub(crate) fn take(&mut self, event: Option<Event>, reply: u64)
+        requires { event ≡ R.announced self.old.now }
         ensures { self.new.start ≡ self.old.start }
     {
-        if let Some(event) = self.next() {
+        if let Some(event) = event {
             if self.len() < self.room {
                 self.push(event, reply);
             }
         }
     }
 
-    /// Whether it is the log of a thread of a run: its items are the thread's entries, and what it announces is the
-    /// thread's last word.
-    pub(crate) fn is_own(&self, run: &Run, thread: ThreadNo) -> bool
-        ensures { IsTrue result → IsOwn R.Routine run.now.journal run.now.words thread self.now }
+    // Whether its item at a place is the event and the reply of an entry.
+    pub(crate) fn has(&self, place: u32, entry: &Entry) -> bool
+        ensures { IsTrue result → slice_get self.now.items place ≡ Some (entry.now.event, entry.now.reply) }
     {
-        let _ = &self.start;
-        if self.has_entries(run.journal(), thread) && run.next(thread) == self.next() {
-            true
-        } else {
-            false
+        match self.items.get(place as usize) {
+            Some((event, reply)) => *event == entry.event && *reply == entry.reply,
+            None => false,
         }
     }
 
-    // Whether its items are the entries of the thread.
-    fn has_entries(&self, journal: &[Entry], thread: ThreadNo) -> bool
-        requires { length journal.now ≤ STEPS }
-        ensures { IsTrue result → self.now.items ≡ made_by thread journal.now }
+    // Whether it has so many items, and this is what it announces now.
+    pub(crate) fn ends_at(&self, items: u32, word: Option<Event>) -> bool
+        ensures { IsTrue result → EndsAt R.Routine self.now items word }
     {
-        let mut place = 0;
-        for entry in journal {
-            if entry.thread == thread {
-                if place >= self.len() {
-                    return false;
-                }
-                let (event, reply) = self.at(place);
-                if event == entry.event && reply == entry.reply {
-                    place += 1;
-                } else {
-                    return false;
-                }
-            }
-        }
-        place == self.len()
+        // A look inside tells what is true of every log.
+        let _ = &self.start;
+        self.len() == items && self.next() == word
     }
 }

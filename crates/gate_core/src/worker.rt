@@ -3,6 +3,7 @@ ghost use Rattle.turn_table.specs.Seat.{RestsAgain};
 ghost use Rattle.gate_core.specs.Gate.{IsBack, IsPassAt};
 
 use crate::{Lent, Log, Pass, Stage, Turnstile, Waited};
+use event_class::Event;
 use routine_kit::Routine;
 use seed_draws::Draws;
 use std::snapshot::Snapshot;
@@ -46,12 +47,13 @@ pub(crate) fn work<R: Routine, S: Draws, O: Draws, C: Drop, G: Stage, W: Wait>(
     let thread = pass.thread();
     stage.born(thread);
     let mut pass = pass;
+    let mut word = log.next();
     for _ in rt.forever() {
         match turnstile.wait_grant(rt, pass) {
             Waited::Mine(lent) => {
                 let step = lent.step();
                 stage.at_turn(thread, step);
-                pass = make_step(lent, &mut log);
+                pass = make_step(lent, &mut log, &mut word);
                 stage.handed(thread, step);
             }
             Waited::Over(pass) | Waited::Closed(pass, _) => return Worked { log, pass },
@@ -60,16 +62,20 @@ pub(crate) fn work<R: Routine, S: Draws, O: Draws, C: Drop, G: Stage, W: Wait>(
     unreachable!()
 }
 
-// Makes the step, tells the routine the reply, and says what it announces then.
+// Makes the step, tells the routine the reply, and says what it announces then. Its event is what it said last.
 fn make_step<R: Routine, S: Draws, O: Draws>(
     mut lent: Lent<'_, S, O>,
     log: &mut Log<R>,
+    word: &mut Option<Event>,
 ) -> Pass<S, O>
-    requires { lent.performed ≡ false }
+    requires first { lent.performed ≡ false }
+    requires word { word.old ≡ R.announced log.old.now }
     ensures pass { IsBack lent.entry.seat result }
     ensures start { log.new.start ≡ log.old.start }
+    ensures word { word.new ≡ R.announced log.new.now }
 {
     let reply = lent.perform();
-    log.take(reply);
-    lent.hand_on(log.next())
+    log.take(*word, reply);
+    *word = log.next();
+    lent.hand_on(*word)
 }

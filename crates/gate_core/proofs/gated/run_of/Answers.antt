@@ -24,7 +24,9 @@ returns-then-all_own-clause-run g c =
     let is : verdict_of setup core ≡ Some found.value = sym (ap (λ s. verdict_of s core) same) ∙ found.is in
     let outcome = c.finish-run.ensures.run found.value found.is ∙ ap (λ s. outcome_at s (position core) found.value) same in
     let kept = subst (λ s. IsKept s core) same c.finish-run.ensures.kept in
-    let own = subst (λ r. AreOwn behaviour r.journal r.words c.args.logs.now.items) outcome (c.if-all_own.ensures refl) in
+    let own =
+    subst (λ r. AreOwn behaviour r.journal r.words c.args.logs.now.items) outcome
+    (subst (λ logs. AreOwn behaviour c.finish-run.result.journal c.finish-run.result.words logs) c.as_slice.ensures.value (c.if-all_own.ensures refl)) in
     subst (λ r. IsRun (script_of behaviour g.S.Draws g.O.Draws plan) r) (sym outcome)
     (is-run behaviour g.S.Draws g.O.Draws plan core c.args.logs.now.items c.requires.logs kept own found.value is)
 
