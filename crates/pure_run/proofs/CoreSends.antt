@@ -14,7 +14,7 @@ use Rattle.walk_rules.specs.contracts.ranks.Ranks as ranks
 use Rattle.walk_rules.specs.contracts.rule.Rule as rule
 use Rattle.walk_rules.specs.contracts.walk.Walk as walk
 use Rattle.run_rules.specs.contracts.entry.Entry as entry
-use Rattle.pure_run.specs.contracts.next.Next as next
+use Rattle.pure_run.specs.contracts.upcoming.Upcoming as upcoming
 use Rattle.pure_run.specs.contracts.word.Word as word
 use Rattle.pure_run.specs.contracts.opening.Opening as opening
 use Rattle.pure_run.specs.contracts.history.History as history
@@ -37,8 +37,8 @@ entry_send = declared_send entry.the_type (search (as_row_send, event_send, send
 word_send : IsSend word.the_row
 word_send = search (event_send, sendable) depth 30 fits 100000
 
-next_send : IsSend next.the_row
-next_send = search sendable depth 60 fits 100000
+upcoming_send : IsSend upcoming.the_row
+upcoming_send = view_send upcoming.TheInside.the_row _ _ _ _ (declared_send upcoming.TheInside.the_type (search (as_row_send, sendable, crosses) depth 60 fits 100000))
 
 asked_list_send : IsSend asked_list.the_row
 asked_list_send = view_send asked_list.TheInside.the_row _ _ _ _ (declared_send asked_list.TheInside.the_type (search (as_row_send, sendable, crosses) depth 30 fits 100000))
@@ -65,7 +65,7 @@ running_send S O s o = declared_send (running.the_type S O) (
     search (as_row_send, sendable),
     (
       search (as_row_send, announced_send),
-      (search (walk_send, sendable), (search (s, sendable), (search (o, sendable), (search (as_row_send, sendable, crosses) depth 30, (search (next_send, sendable), tt))))),
+      (search (walk_send, sendable), (search (s, sendable), (search (o, sendable), (search (as_row_send, sendable, crosses) depth 30, (search (upcoming_send, sendable), tt))))),
     ),
   ),
 )

@@ -35,7 +35,7 @@ module _ {S O : Type 0} (draws_s : Ghosts S) (draws_o : Ghosts O) (core : CoreSt
   next-core = after_word core thread event
 
   -- nothing comes next while a word is due
-  next-due : running.next ≡ next.Due
+  pub next-due : running.next ≡ next.Due
   next-due = is.decided.next ∙ ap (λ (b : Bool). cond b next.Due (next_by (verdict_at setup x) (choice setup x))) (any-due core.words thread at)
 
   -- so no draws were asked for at the position

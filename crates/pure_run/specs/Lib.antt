@@ -7,4 +7,5 @@ pub mod Monitors
 pub mod Opening
 pub mod Profile
 pub mod Run
+pub mod Upcoming
 pub mod View

@@ -12,6 +12,7 @@ mod profiling;
 mod replaying;
 mod run;
 mod running;
+mod upcoming;
 mod view;
 mod word;
 
@@ -24,4 +25,5 @@ pub use profiling::{PROFILE_STREAM, ProfileCounts, ProfileFault, profile};
 pub use run::Run;
 pub use run_rules::{Entry, Plan, Verdict};
 pub use running::Running;
+pub use upcoming::Upcoming;
 pub use word::Word;

@@ -4,7 +4,7 @@ ghost use Rattle.run_rules.specs.Setup.{IsValid};
 ghost use Rattle.seed_draws.specs.Answers.{Source, after_bounds};
 ghost use Rattle.walk_rules.specs.State.{new_walk};
 ghost use Rattle.walk_rules.specs.Walk.{wrong_of};
-ghost use Rattle.pure_run.specs.declared.next.Next.TheVariants.{Stopped};
+ghost use Rattle.pure_run.specs.declared.next.Next.TheVariants.{Due, Stopped};
 ghost use Rattle.pure_run.specs.declared.word.Word.TheVariants.{Said};
 ghost use Rattle.pure_run.specs.Core.{new_core, before_word, after_entry, position, setup_by, granted_of, IsGrantedStep, IsStep};
 ghost use Rattle.pure_run.specs.Decision.{bounds_by, decision, is_drawn_at, pick_by, stop_at, walk_then, IsDecidable};
@@ -15,7 +15,7 @@ ghost use Rattle.pure_run.specs.Opening.{setup_in};
 use crate::monitors::{places_at_start, watch};
 use crate::replaying::{left_over, other_than_asked};
 use crate::view::{look_after, look_at};
-use crate::{History, Next, Run};
+use crate::{History, Next, Run, Upcoming};
 use event_class::Event;
 use run_rules::{Entry, Verdict};
 use seed_draws::Draws;
@@ -36,7 +36,7 @@ pub struct Running<S: Draws, O: Draws> {
     other: O,
     // Where each monitor failed so far.
     failed: Vec<Option<u32>>,
-    next: Next,
+    next: Upcoming,
 }
 
 impl<S: Draws, O: Draws> Running<S, O> {
@@ -63,7 +63,7 @@ impl<S: Draws, O: Draws> Running<S, O> {
             selected,
             other,
             failed,
-            next: Next::Due,
+            next: Upcoming::due(),
         };
         running.decide(history);
         Ok(running)
@@ -72,7 +72,8 @@ impl<S: Draws, O: Draws> Running<S, O> {
     // Decides what comes next: a word while some are due, else a verdict or the pick of the strategy.
     #[tactic(auto, unfolding(seed_draws::specs::Answers::after_bounds))]
     fn decide(&mut self, history: &History<S, O>)
-        requires { IsDecidable history.now self.old }
+        requires made { IsDecidable history.now self.old }
+        requires due { self.old.next ≡ Due }
         ensures next { self.new.next ≡ decision S.Draws O.Draws history.now self.old }
         ensures walk { self.new.walk ≡ walk_then (is_drawn_at self.new.next) (pick_by S.Draws O.Draws self.old) self.old.walk }
         ensures selected { self.new.selected ≡ after_bounds S.Draws self.old.selected
@@ -84,11 +85,10 @@ impl<S: Draws, O: Draws> Running<S, O> {
         ensures able { IsAbleNext self.old.view self.new.next }
     {
         if self.due > 0 {
-            self.next = Next::Due;
             return;
         }
         if let Some(verdict) = self.stop(history) {
-            self.next = Next::Stopped(verdict);
+            self.next.stop(verdict);
             return;
         }
         let step = history.len();
@@ -97,10 +97,10 @@ impl<S: Draws, O: Draws> Running<S, O> {
             .pick(step, &self.view, &mut self.selected, &mut self.other)
         {
             Picked::Grant { thread, forced } => {
-                self.next = Next::Granted(Grant { thread, forced });
+                self.next.grant(Grant { thread, forced });
             }
             Picked::Stop(fault) => {
-                self.next = Next::Stopped(Verdict::Draw { step, fault });
+                self.next.stop(Verdict::Draw { step, fault });
             }
         }
     }
@@ -167,7 +167,7 @@ impl<S: Draws, O: Draws> Running<S, O> {
         requires granted { granted_of (setup_by S.Draws O.Draws history.now) history.now ≡ Some thread }
         ensures { IsGrantedStep (setup_by S.Draws O.Draws history.now) history.now thread result.0 result.1 }
     {
-        let Next::Granted(grant) = self.next else {
+        let Next::Granted(grant) = self.next.to_next() else {
             unreachable!()
         };
         let Some(event) = history.words()[usize::from(thread.get())].last() else {
@@ -197,7 +197,7 @@ impl<S: Draws, O: Draws> Running<S, O> {
         look_after(&mut self.view, &self.world, history.words(), &event);
         self.view.set(thread, Seen::Over);
         self.due = 1;
-        self.next = Next::Due;
+        self.next.wait();
         Entry {
             thread,
             event,
@@ -210,7 +210,7 @@ impl<S: Draws, O: Draws> Running<S, O> {
     pub(crate) fn next(&self) -> Next
         ensures { result ≡ self.now.next }
     {
-        self.next
+        self.next.to_next()
     }
 
     // The run of a history whose verdict this is.

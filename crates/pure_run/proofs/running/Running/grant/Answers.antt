@@ -21,4 +21,4 @@ returns g c =
     ∙ c.last.ensures
     ∙ last-is g.S.Draws g.O.Draws c.args.history.now c.args.self.now c.requires.core c.args.thread c.requires.granted
     c.words.result.now c.from.result c.words.ensures (c.from.ensures ∙ c.get.ensures.same))
-    c.in-Granted.is
+    (sym c.to_next.ensures ∙ c.in-Granted.is)

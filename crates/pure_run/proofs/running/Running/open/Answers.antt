@@ -5,7 +5,6 @@ use Rattle.test_world.specs.Size.{IsWithinLimits}
 use Rattle.test_world.specs.World.{new_world}
 use Rattle.walk_rules.specs.declared.seen.Seen.TheVariants as seen
 use Rattle.run_rules.specs.Setup.{IsValid}
-use Rattle.pure_run.specs.declared.next.Next.TheVariants.{Due}
 use Rattle.pure_run.specs.declared.running.Running.{Running}
 use Rattle.pure_run.specs.Core.{CoreState, setup_by}
 use Rattle.pure_run.specs.Invariant.{AreParts, IsKept}
@@ -13,7 +12,7 @@ use Rattle.pure_run.specs.Monitors.{failed_in}
 use Rattle.pure_run.proofs.Decision.{can-decide, core-decided}
 use Rattle.pure_run.proofs.NewCore.{kept-new, parts-new}
 use Rattle.pure_run.proofs.running.Running.open.Given.{Over}
-use Rattle.pure_run.proofs.running.Running.open.Goals.{After-new-view, Start}
+use Rattle.pure_run.proofs.running.Running.open.Goals.{After-due, Start}
 use Rattle.pure_run.proofs.running.Running.open.Goals as goal
 
 abbrev core : (g : Over) (c : Start g) → CoreState g.row.S.Denot g.row.O.Denot
@@ -38,7 +37,7 @@ new-view-requires g c =
     omega (arith, most, c.threads-threads.ensures, ap (λ o. o.threads) c.opening-opening.ensures)
 
 -- the parts that are decided by
-abbrev running : (g : Over) (c : After-new-view g) → Running g.row.S.Denot g.row.O.Denot
+abbrev running : (g : Over) (c : After-due g) → Running g.row.S.Denot g.row.O.Denot
 running g c = record {
   world = c.in_ok-world.world;
   due = c.threads-threads.result;
@@ -47,7 +46,7 @@ running g c = record {
   selected = c.in_ok-selected.selected;
   other = c.in_ok-other.other;
   failed = c.in_ok-failed.failed;
-  next = Due;
+  next = c.due.result;
 }
 
 kept : (g : Over) (c : Start g) → IsKept (setup_by g.S.Draws g.O.Draws (core g c)) (core g c)
@@ -55,7 +54,7 @@ kept g c =
     subst (λ (k : CoreState g.row.S.Denot g.row.O.Denot). IsKept (setup_by g.S.Draws g.O.Draws (core g c)) k) (sym c.requires.new)
     (kept-new g.S.Draws g.O.Draws c.args.history.now.opening (valid g c))
 
-ready : (g : Over) (c : After-new-view g) → AreParts g.S.Draws g.O.Draws (setup_by g.S.Draws g.O.Draws c.args.history.now) c.args.history.now false (running g c)
+ready : (g : Over) (c : After-due g) → AreParts g.S.Draws g.O.Draws (setup_by g.S.Draws g.O.Draws c.args.history.now) c.args.history.now false (running g c)
 ready g c =
     let opening = c.args.history.now.opening in
     let is = c.opening-opening.ensures in
@@ -70,14 +69,14 @@ ready g c =
     ∙ ap (λ w. map (failed_in w 0) c.monitors.result.now) world
     ∙ ap (λ m. map (failed_in (new_world opening.size) 0) m) (c.monitors.ensures ∙ ap (λ o. o.monitors) is)))
 
-pub decide-requires : goal.decide-requires
-decide-requires g c =
-    let at = goal.at.decide-requires g c in
-    can-decide g.S.Draws g.O.Draws (core g at.Start) (running g at.After-new-view) (ready g at.After-new-view) (kept g at.Start)
+pub decide-requires-clause-made : goal.decide-requires-clause-made
+decide-requires-clause-made g c =
+    let at = goal.at.decide-requires-clause-made g c in
+    can-decide g.S.Draws g.O.Draws (core g at.Start) (running g at.After-due) (ready g at.After-due) (kept g at.Start)
 
 pub returns : goal.returns
 returns g c =
     let at = goal.at.returns g c in
-    core-decided g.S.Draws g.O.Draws (core g at.Start) (running g at.After-new-view) (ready g at.After-new-view) (kept g at.Start)
+    core-decided g.S.Draws g.O.Draws (core g at.Start) (running g at.After-due) (ready g at.After-due) (kept g at.Start)
     c.decide.new.self
     c.decide.ensures.next c.decide.ensures.walk c.decide.ensures.selected c.decide.ensures.other c.decide.ensures.rest c.decide.ensures.able

@@ -92,4 +92,4 @@ returns-clause-core g c =
     ∙ ap (λ w. failed_then w (c.len.result + 1) running.failed.items c.monitors.result.now) c.apply-reply.ensures.after
     ∙ ap (λ n. failed_then (after running.world thread event) (n + 1) running.failed.items c.monitors.result.now) c.len.ensures
     ∙ ap (λ m. failed_then (after running.world thread event) (length core.journal + 1) running.failed.items m) monitors)
-    refl
+    c.wait.ensures

@@ -5,7 +5,7 @@ use Rattle.pure_run.specs.Core.{CoreState, before_word, setup_by}
 use Rattle.pure_run.specs.Invariant.{AreParts, IsKept}
 use Rattle.pure_run.proofs.Decision.{can-decide, core-decided}
 use Rattle.pure_run.proofs.WordJournal.{due-before, kept-word, word-again}
-use Rattle.pure_run.proofs.WordRunning.{due-some, parts-word, view-within}
+use Rattle.pure_run.proofs.WordRunning.{due-some, next-due, parts-word, view-within}
 use Rattle.pure_run.proofs.running.Running.say.Given.{Over}
 use Rattle.pure_run.proofs.running.Running.say.Goals.{After-set}
 use Rattle.pure_run.proofs.running.Running.say.Goals as goal
@@ -50,10 +50,16 @@ ready g c =
     (c.look_at-seen.ensures ∙ ap (λ items. seen_word c.args.self.now.world items c.args.event.now) (c.selection.ensures ∙ ap (λ o. o.selection) c.opening-opening.ensures)))
     refl refl refl refl)
 
-pub decide-requires : goal.decide-requires
-decide-requires g c =
-    let set = (goal.at.decide-requires g c).After-set in
+pub decide-requires-clause-made : goal.decide-requires-clause-made
+decide-requires-clause-made g c =
+    let set = (goal.at.decide-requires-clause-made g c).After-set in
     can-decide g.S.Draws g.O.Draws (core g set) (running g set) (ready g set) (kept g set)
+
+pub decide-requires-clause-due : goal.decide-requires-clause-due
+decide-requires-clause-due g c =
+    let core = c.args.history.now in
+    next-due g.S.Draws g.O.Draws (before_word core c.args.thread) c.args.self.now c.args.thread c.args.event.now c.requires.core
+    (due-before core c.args.thread c.args.event.now c.requires.said)
 
 pub returns : goal.returns
 returns g c =
