@@ -1,11 +1,11 @@
 -- The threads that can go on, and numbers that are kept to them.
-use Rattle.std.proofs.Common.{◌≡◌, ℕ, zero, suc, ◌+◌, ◌<◌, ◌≤◌, true, false, cond, IsTrue, List, [], ◌∷◌, length, get_or, take, sum, refl, ap, sym, subst, ◌∙◌, inl, inr, arith}
+use Rattle.std.proofs.Common.{◌≡◌, ℕ, zero, suc, ◌+◌, ◌<◌, true, false, cond, IsTrue, List, [], ◌∷◌, length, get_or, take, sum, refl, ap, sym, subst, ◌∙◌, inl, inr, arith}
 use Rattle.std.proofs.lemmas.Bool.{false≢true, cases_lt, cases_Bool, cond-true, cond-false}
-use Rattle.std.proofs.lemmas.List.{get_or_past, take_all}
-use Rattle.std.proofs.lemmas.List.Sums.{sum_by-cons, sum_by_more, sum_by_more_le}
+use Rattle.std.proofs.lemmas.List.{get_or_past}
+use Rattle.std.proofs.lemmas.List.Sums.{sum_by-cons}
 use Rattle.std.specs.List.{count_by}
 use Rattle.draw_split.specs.Bag.{pick}
-use Rattle.draw_split.proofs.Bag.{IsAt, pick-at, placed, at-below, listed}
+use Rattle.draw_split.proofs.Bag.{IsAt, placed, at-below, listed}
 use Rattle.walk_rules.specs.Seen.{is_able, seen_of, able_threads, kept_to_able}
 use Rattle.walk_rules.specs.declared.seen.Seen.{Seen}
 use Rattle.walk_rules.specs.declared.seen.Seen.TheVariants.{Over, Held, Able}
@@ -132,53 +132,6 @@ kept-positive left view thread able some =
     let is : get_or kept thread 0 ≡ get_or left thread 0 = kept-index left view thread ∙ cond-true (is_able (seen_of view thread)) (get_or left thread 0) 0 able in
     let at : IsAt kept (sum (take thread kept)) thread 0 = record { within = omega (arith, is); there = omega arith } in
     omega (arith, at-below at)
-
--- no more is kept than is left
-pub sum-kept : (left : List ℕ) (view : List Seen) → sum (kept_to_able left view) ≤ sum left
-unfolding kept_to_able
-sum-kept [] view = omega arith
-sum-kept (number ∷ numbers) [] = omega (arith, sum_by-cons (λ x. x) number numbers, sum_by-cons (λ x. x) 0 (kept_to_able numbers []), sum-kept numbers [])
-sum-kept (number ∷ numbers) (Over ∷ view) = omega (arith, sum_by-cons (λ x. x) number numbers, sum_by-cons (λ x. x) 0 (kept_to_able numbers view), sum-kept numbers view)
-sum-kept (number ∷ numbers) (Held chosen ∷ view) =
-    omega (arith, sum_by-cons (λ x. x) number numbers, sum_by-cons (λ x. x) 0 (kept_to_able numbers view), sum-kept numbers view)
-sum-kept (number ∷ numbers) (Able chosen ∷ view) =
-    omega (arith, sum_by-cons (λ x. x) number numbers, sum_by-cons (λ x. x) number (kept_to_able numbers view), sum-kept numbers view)
-
--- ---- the way through the threads with the numbers that are kept
-
--- the next number
-module _ (left : List ℕ) (view : List Seen) (thread number : ℕ) (each : length view ≡ length left) (lt : thread < length view)
-    (is : number ≡ cond (is_able (get_or view thread Over)) (get_or left thread 0) 0) where
-  kept-here : get_or (kept_to_able left view) thread 0 ≡ number
-  kept-here = kept-index left view thread ∙ sym is
-
-  kept-listed : thread < length (kept_to_able left view)
-  kept-listed = omega (arith, each, lt, length-kept left view)
-
-  pub kept-more : sum (take (thread + 1) (kept_to_able left view)) ≡ sum (take thread (kept_to_able left view)) + number
-  kept-more =
-      let here = kept-here in
-      let listed = kept-listed in
-      omega (arith, here, sum_by_more (λ x. x) (kept_to_able left view) thread 0 listed)
-
-  -- with those before it no more than is left
-  pub kept-within : sum (take thread (kept_to_able left view)) + number ≤ sum left
-  kept-within =
-      let here = kept-here in
-      let listed = kept-listed in
-      omega (arith, here, sum_by_more_le (λ x. x) (kept_to_able left view) thread 0 listed, sum-kept left view)
-
-  -- a place within it is this thread's
-  pub kept-found : (rest place : ℕ) → rest + sum (take thread (kept_to_able left view)) ≡ place → rest < number → pick (kept_to_able left view) place ≡ thread
-  kept-found rest place there within =
-      let here = kept-here in
-      let at : IsAt (kept_to_able left view) place thread rest = record { within = omega (arith, here, within); there = there } in
-      pick-at at
-
--- all of them
-pub kept-all : (left : List ℕ) (view : List Seen) (thread : ℕ) → length view ≡ length left → length view ≤ thread
-    → sum (take thread (kept_to_able left view)) ≡ sum (kept_to_able left view)
-kept-all left view thread each past = ap sum (take_all thread (kept_to_able left view) (omega (arith, each, past, length-kept left view)))
 
 -- what is known of a pick
 pub ruleset picks = (able-place, kept-pick)

@@ -4,6 +4,7 @@ pub mod DrawnGrants
 pub mod FallingPriorities
 pub mod FirstPriorities
 pub mod FollowLaws
+pub mod KeptNumbers
 pub mod LinkSearch
 pub mod MarkedThreads
 pub mod NarrowThreads
@@ -19,7 +20,6 @@ pub mod StrategyLaws
 pub mod SurwLaws
 pub mod SurwValues
 pub mod ThreadSets
-pub mod UnheldThreads
 pub mod UrwLaws
 pub mod UrwValues
 pub mod WalkAfterStep

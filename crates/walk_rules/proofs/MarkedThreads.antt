@@ -7,12 +7,12 @@ use Rattle.std.specs.Int.RustNames.{count_ones}
 use Rattle.std.specs.List.{count_by, refill}
 use Rattle.std.specs.Simd.Lanes.{mask_l}
 use Rattle.surw_base.specs.declared.limits.TheConstants.{THREADS}
-use Rattle.walk_rules.specs.Seen.{able_threads, is_able}
+use Rattle.walk_rules.specs.Seen.{able_threads, held_threads, is_able, is_announcing, is_held}
 use Rattle.walk_rules.specs.ThreadSet.{members}
 use Rattle.walk_rules.specs.declared.seen.Seen.{Seen}
-use Rattle.walk_rules.specs.declared.seen.Seen.TheVariants.{Over}
+use Rattle.walk_rules.specs.declared.seen.Seen.TheVariants.{Over, Held, Able}
 use Rattle.walk_rules.proofs.AbleThreads.{able-threads}
-use Rattle.walk_rules.proofs.PassingThreads.{passing_from}
+use Rattle.walk_rules.proofs.PassingThreads.{passing_from, passing-all}
 use Rattle.walk_rules.proofs.ThreadSets.{counted, members-even, members-none, members-odd}
 
 -- a bit of the next thread
@@ -103,12 +103,29 @@ flags-map : (test : Seen → Bool) (first : ℕ) (view : List Seen) → flags_by
 flags-map test first [] = refl
 flags-map test first (seen ∷ view) = ap (λ flags. test seen ∷ flags) (flags-map test (first + 1) view)
 
+-- the set of those that pass a test of what is seen alone
+tested-members : (test : Seen → Bool) (view : List Seen) (bits : ℕ) → length view ≤ THREADS → bits ≡ mask_l (map test view)
+    → members THREADS 0 bits ≡ passing_from (λ thread seen. test seen) 0 view
+tested-members test view bits few is =
+    ap (members THREADS 0) (is ∙ ap mask_l (sym (flags-map test 0 view)))
+    ∙ marked-members (λ thread seen. test seen) THREADS 0 view few
+
 -- the set of the threads that can go on
 pub able-members : (view : List Seen) (bits : ℕ) → length view ≤ THREADS → bits ≡ mask_l (map is_able view) → members THREADS 0 bits ≡ able_threads view
-able-members view bits few is =
-    ap (members THREADS 0) (is ∙ ap mask_l (sym (flags-map is_able 0 view)))
-    ∙ marked-members (λ thread seen. is_able seen) THREADS 0 view few
-    ∙ sym (able-threads view)
+able-members view bits few is = tested-members is_able view bits few is ∙ sym (able-threads view)
+
+-- ---- the threads that are held
+
+-- they are those that announce an event without those that can go on
+pub held-marked : (view : List Seen) → mask_l (map is_held view) + mask_l (map is_able view) ≡ mask_l (map is_announcing view)
+held-marked [] = refl
+held-marked (Over ∷ view) = omega (arith, held-marked view)
+held-marked (Held chosen ∷ view) = omega (arith, held-marked view)
+held-marked (Able chosen ∷ view) = omega (arith, held-marked view)
+
+pub held-members : (view : List Seen) (bits : ℕ) → length view ≤ THREADS → bits ≡ mask_l (map is_held view) → members THREADS 0 bits ≡ held_threads view
+unfolding held_threads
+held-members view bits few is = tested-members is_held view bits few is ∙ sym (passing-all (λ thread seen. is_held seen) view)
 
 -- what is known of a set when a thread is seen anew
 pub ruleset marks = (marked-few, marked-has, marked-set)

@@ -159,6 +159,24 @@ member-below (suc count) first n d lt =
     omega (arith, here, rest))
     n lt
 
+-- ---- taking the lowest out
+
+first-rest : (xs : List ℕ) → 0 < length xs → xs ≡ get_or xs 0 0 ∷ drop 1 xs
+first-rest [] some = absurd (omega (arith, some))
+first-rest (x ∷ xs) some = refl
+
+pub taken : (n : ℕ) → 0 < length (members THREADS 0 n) → members THREADS 0 n ≡ count_trailing_zeros 32 n ∷ members THREADS 0 (bit_and n (n - 1))
+taken n some =
+    let first : get_or (members THREADS 0 n) 0 0 ≡ count_trailing_zeros 32 n = omega (arith, lowest THREADS 32 0 n (omega arith) some) in
+    let rest = sym (cleared THREADS 0 n some) in
+    first-rest (members THREADS 0 n) some ∙ (λ i. first i ∷ rest i)
+
+pub taken-some : (n : ℕ) → 0 < length (members THREADS 0 n) → 0 < n
+taken-some n some = some-bits THREADS 0 n some
+
+pub taken-below : (n : ℕ) → 0 < length (members THREADS 0 n) → count_trailing_zeros 32 n < THREADS
+taken-below n some = omega (arith, lowest THREADS 32 0 n (omega arith) some, member-below THREADS 0 n 0 some)
+
 -- ---- on the way to the member at a place
 
 drop-one : (n : ℕ) (xs : List ℕ) → drop (suc n) xs ≡ drop 1 (drop n xs)

@@ -9,6 +9,11 @@ abbrev pub is_able : Seen → Bool
 is_able (Able chosen) = true
 is_able _ = false
 
+-- whether a thread announces an event that isn't enabled
+abbrev pub is_held : Seen → Bool
+is_held (Held chosen) = true
+is_held _ = false
+
 -- whether a thread announces an event
 abbrev pub is_announcing : Seen → Bool
 is_announcing Over = false
@@ -37,6 +42,10 @@ seen_of view thread = slice_index_or view thread Over
 -- the threads that can go on, rising
 unfoldable pub able_threads : List Seen → List ℕ
 able_threads view = filter (λ thread. is_able (seen_of view thread)) (range_with_len 0 (length view))
+
+-- the threads that announce an event that isn't enabled, rising
+unfoldable pub held_threads : List Seen → List ℕ
+held_threads view = filter (λ thread. is_held (seen_of view thread)) (range_with_len 0 (length view))
 
 -- some numbers with 0 for each thread that can't go on
 unfoldable pub kept_to_able : List ℕ → List Seen → List ℕ

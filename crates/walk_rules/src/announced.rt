@@ -1,9 +1,10 @@
-ghost use Rattle.std.specs.Prelude.{◌≡◌, ◌<◌, ◌≤◌, length, map, replicate, slice_index, slice_set};
+ghost use Rattle.std.specs.Prelude.{◌≡◌, ◌^◌, ◌<◌, ◌≤◌, length, map, replicate, slice_index, slice_set};
 ghost use Rattle.std.specs.List.{count_by};
 ghost use Rattle.std.specs.Simd.Lanes.{mask_l};
 ghost use Rattle.surw_base.specs.declared.limits.TheConstants.{THREADS};
 ghost use Rattle.walk_rules.specs.declared.seen.Seen.TheVariants.{Over};
-ghost use Rattle.walk_rules.specs.Seen.{is_able, is_announcing, is_unselected, seen_of, able_threads};
+ghost use Rattle.walk_rules.specs.Seen.{is_able, is_announcing, is_unselected, seen_of, able_threads, held_threads};
+ghost use Rattle.walk_rules.specs.ThreadSet.{members};
 
 use crate::Seen;
 use crate::thread_set::ThreadSet;
@@ -105,6 +106,22 @@ impl Announced {
         ensures { result ≡ slice_index (able_threads self.now) place }
     {
         self.able.at(place)
+    }
+
+    // The threads that can go on.
+    pub(crate) fn able_set(&self) -> ThreadSet
+        ensures threads { members THREADS 0 result.bits ≡ able_threads self.now }
+        ensures few { result.bits < 2 ^ THREADS }
+    {
+        self.able
+    }
+
+    // The threads that announce an event that isn't enabled.
+    pub(crate) fn held(&self) -> ThreadSet
+        ensures threads { members THREADS 0 result.bits ≡ held_threads self.now }
+        ensures few { result.bits < 2 ^ THREADS }
+    {
+        self.announcing.without(self.able)
     }
 
     // The threads that can go on whose event isn't selected.

@@ -1,4 +1,4 @@
-ghost use Rattle.std.specs.Prelude.{◌≡◌, if◌then◌else◌};
+ghost use Rattle.std.specs.Prelude.{◌≡◌};
 ghost use Rattle.walk_rules.specs.Seen.{is_able, is_announcing, is_selected, is_unselected};
 ghost use Rattle.walk_rules.specs.Walk.{is_wrong};
 
@@ -49,13 +49,6 @@ impl Seen {
             Seen::Able { chosen } => !chosen,
             _ => false,
         }
-    }
-
-    // The number where the thread can go on, else 0.
-    pub(crate) fn kept(self, number: u32) -> u32
-        ensures { result ≡ (if is_able self then number else 0) }
-    {
-        if self.is_able() { number } else { 0 }
     }
 
     // Whether the thread announces an event.

@@ -1,4 +1,4 @@
-ghost use Rattle.std.specs.Prelude.{◌≡◌, ◌+◌, ◌^◌, ◌<◌, ◌≤◌, length, slice_index, if◌then◌else◌};
+ghost use Rattle.std.specs.Prelude.{◌≡◌, ◌+◌, ◌^◌, ◌<◌, ◌≤◌, ◌∷◌, length, slice_index, if◌then◌else◌};
 ghost use Rattle.surw_base.specs.declared.limits.TheConstants.{THREADS};
 ghost use Rattle.walk_rules.specs.ThreadSet.{members};
 
@@ -40,6 +40,26 @@ impl ThreadSet {
         ensures { result ≡ length (members THREADS 0 self.now.bits) }
     {
         self.bits.count_ones() as usize
+    }
+
+    // Without the threads of another set, which are all in it.
+    pub(crate) fn without(&self, other: ThreadSet) -> ThreadSet
+        requires { other.bits ≤ self.now.bits }
+        ensures { result.bits + other.bits ≡ self.now.bits }
+    {
+        ThreadSet {
+            bits: self.bits - other.bits,
+        }
+    }
+
+    // Takes the lowest thread out.
+    pub(crate) fn take_lowest(&mut self) -> ThreadNo
+        requires { 0 < length (members THREADS 0 self.old.bits) }
+        ensures { members THREADS 0 self.old.bits ≡ result ∷ members THREADS 0 self.new.bits }
+    {
+        let lowest = self.bits.trailing_zeros();
+        self.bits &= self.bits - 1;
+        ThreadNo::new(lowest as u8).unwrap()
     }
 
     // The thread at a place among those that are in it, rising.

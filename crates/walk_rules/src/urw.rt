@@ -1,14 +1,13 @@
-ghost use Rattle.std.specs.Prelude.{◌≡◌, ◌<◌, ◌≤◌, ◌∷◌, [], None, length, sum};
-ghost use Rattle.surw_base.specs.declared.limits.TheConstants.{THREADS, STEPS};
+ghost use Rattle.std.specs.Prelude.{◌≡◌, ◌<◌, ◌∷◌, [], None, length};
 ghost use Rattle.seed_draws.specs.Answers.{after_bounds, answers};
 ghost use Rattle.walk_rules.specs.Granted.{granted_at};
 ghost use Rattle.walk_rules.specs.Urw.{urw_bound, urw_thread};
 ghost use Rattle.walk_rules.specs.Walk.{first_wrong, GrantsAble};
 
-use crate::{Announced, Picked, Seen};
+use crate::{Announced, Picked};
 use draw_split::Weights;
 use seed_draws::Draws;
-use surw_base::{THREADS, ThreadNo};
+use surw_base::ThreadNo;
 
 // Picks the thread at a drawn place of the bag of the numbers left, kept to the threads that can go on.
 #[tactic(auto, using(crate::proofs::AbleThreads::picks), unfolding(seed_draws::specs::Answers::answers, seed_draws::specs::Answers::after_bounds))]
@@ -22,51 +21,42 @@ pub(crate) fn pick<S: Draws>(left: &Weights, view: &Announced, selected: &mut S)
 {
     match selected.below(bound(left, view)) {
         Ok(draw) => Picked::Grant {
-            thread: kept_at(left.as_slice(), view.as_slice(), draw),
+            thread: kept_at(left, view, draw),
             forced: false,
         },
         Err(fault) => Picked::Stop(fault),
     }
 }
 
-// The sum of the numbers left of the threads that can go on. Where no thread is held that is the sum of all, since a
-// thread that has ended has none left.
+// The sum of the numbers left of the threads that can go on: of all but the held ones, since a thread that has ended has
+// none left.
 fn bound(left: &Weights, view: &Announced) -> u64
     requires each { length view.now ≡ length left.now }
     requires right { first_wrong left.now view.now ≡ None }
     ensures { result ≡ urw_bound left.now view.now }
 {
-    if view.able() == view.announcing() {
-        return left.sum();
-    }
-    kept_sum(left.as_slice(), view.as_slice())
-}
-
-// The same, found thread by thread.
-fn kept_sum(left: &[u32], view: &[Seen]) -> u64
-    requires each { length view.now ≡ length left.now }
-    requires steps { sum left.now ≤ STEPS }
-    ensures { result ≡ urw_bound left.now view.now }
-{
-    let mut sum = 0u64;
-    for (thread, seen) in view.iter().enumerate() {
-        sum += u64::from(seen.kept(left[thread]));
+    let mut held = view.held();
+    let mut sum = left.sum();
+    for _passed in 0..held.len() {
+        let thread = held.take_lowest();
+        sum -= u64::from(left.left(thread));
     }
     sum
 }
 
 // The thread at a place of that bag.
-fn kept_at(left: &[u32], view: &[Seen], place: u64) -> ThreadNo
+fn kept_at(left: &Weights, view: &Announced, place: u64) -> ThreadNo
     requires each { length view.now ≡ length left.now }
-    requires threads { length view.now ≤ THREADS }
     requires drawn { place < urw_bound left.now view.now }
     ensures { result ≡ urw_thread left.now view.now place }
 {
+    let mut able = view.able_set();
     let mut rest = place;
-    for (thread, seen) in view.iter().enumerate() {
-        let number = u64::from(seen.kept(left[thread]));
+    for _passed in 0..able.len() {
+        let thread = able.take_lowest();
+        let number = u64::from(left.left(thread));
         if rest < number {
-            return ThreadNo::new(thread as u8).unwrap();
+            return thread;
         }
         rest -= number;
     }

@@ -1,6 +1,0 @@
-use Rattle.std.proofs.Common.{◌≡◌, sum, take}
-use Rattle.walk_rules.specs.Seen.{kept_to_able}
-use Rattle.walk_rules.proofs.urw.kept_sum.Given as goal
-
-abbrev pub invariant-loop-thread : goal.invariant-loop-thread
-invariant-loop-thread l = l.sum ≡ sum (take l.thread (kept_to_able l.left l.view))
