@@ -1,11 +1,13 @@
+ghost use Rattle.std.specs.Fmt.{decimal};
 ghost use Rattle.std.specs.Prelude.{◌≡◌, ◌∷◌, [], ◌++◌, codes, length, OnOk};
 ghost use Rattle.run_rules.specs.EventsMade.{selected_order};
 ghost use Rattle.report_text.specs.Counts.{selected_count, forced_count, switches};
 ghost use Rattle.surw_base.specs.Lines.{list_line, number_line};
 
+use line_text::Line;
 use pure_run::Run;
 use run_rules::Entry;
-use surw_base::{OutOfMemory, push_item, push_list_line};
+use surw_base::{OutOfMemory, ThreadNo, push_list_line};
 
 // Appends the lines of what is counted in a run.
 pub(crate) fn push_counts(text: &mut Vec<u8>, run: &Run) -> Result<(), OutOfMemory>
@@ -31,13 +33,25 @@ pub(crate) fn push_order_line(text: &mut Vec<u8>, run: &Run) -> Result<(), OutOf
         ≡ text.old.items ++ list_line (codes "order") (selected_order run.now.selection run.now.journal)) }
 {
     text.extend_from_slice(b"order")?;
+    let mut line = Line::new();
     for (k, entry) in run.journal().iter().enumerate() {
         let chosen = run.selected(k as u32);
         if chosen {
-            push_item(text, u64::from(entry.thread.get()))?;
+            push_thread(text, &mut line, entry.thread)?;
         }
     }
     text.push(b'\n')?;
+    Ok(())
+}
+
+// Appends a space and the number of a thread, which are made in this line.
+fn push_thread(text: &mut Vec<u8>, line: &mut Line, thread: ThreadNo) -> Result<(), OutOfMemory>
+    ensures { OnOk result (text.new.items ≡ text.old.items ++ 32 ∷ decimal thread) }
+{
+    line.clear();
+    line.put_number(u64::from(thread.get()));
+    line.put(b" ");
+    text.extend_from_slice(line.as_slice())?;
     Ok(())
 }
 

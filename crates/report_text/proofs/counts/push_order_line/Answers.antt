@@ -1,14 +1,11 @@
-use Rattle.std.proofs.Common.{◌≡◌, ℕ, List, ◌∷◌, ◌++◌, length, take, Some, refl, ap, sym, ◌∙◌, append-nil}
+use Rattle.std.proofs.Common.{◌≡◌, List, length, Some, refl, ap, sym, ◌∙◌, append-nil}
 use Rattle.std.proofs.lemmas.Option.{slice_get_read}
-use Rattle.std.specs.Fmt.{decimal}
 use Rattle.std.specs.List.{slice_get}
 use Rattle.run_rules.specs.declared.entry.Entry.{Entry}
-use Rattle.run_rules.specs.EventsMade.{selected_order}
-use Rattle.surw_base.specs.Lines.{items_text}
 use Rattle.report_text.proofs.SelectedEntries.{order-none, order-takes, order-passes}
 use Rattle.report_text.proofs.TextPrefixes.{added}
 use Rattle.report_text.proofs.counts.push_order_line.Goals as goal
-use Rattle.report_text.proofs.counts.push_order_line.Goals.{then-chosen+in_ok-push_item, else-chosen}
+use Rattle.report_text.proofs.counts.push_order_line.Goals.{then-chosen+in_ok-push_thread, else-chosen}
 
 pub loop-k-init : goal.loop-k-init
 loop-k-init c = rw (order-none c.args.run.now.selection) (sym (append-nil c.extend_from_slice.new.self.items))
@@ -23,13 +20,10 @@ loop-k-preserved c =
     let read : slice_get items k ≡ Some entry = slice_get_read items (length items) k entry refl c.loop-k-test.true c.entry-item.is in
     let here : slice_get run.journal k ≡ Some entry = ap (λ (l : List Entry). slice_get l k) (sym same) ∙ read in
     let told = c.selected-chosen.ensures entry here in
-    let so_far = items_text (selected_order run.selection (take k run.journal)) in
     elim c.if-chosen.branch [
-      | then-chosen+in_ok-push_item w ↦
-          let number : w.from.result ≡ entry.thread = w.from.ensures ∙ w.get.ensures.same in
-          let next = order-takes run.selection run.journal k entry here (sym told ∙ w.if-chosen.true)
-          ∙ ap (λ (n : ℕ). so_far ++ 32 ∷ decimal n) (sym number) in
-          rw w.text-is (added _ _ _ _ _ _ c.loop-k.invariant w.in_ok-push_item.ensures next)
+      | then-chosen+in_ok-push_thread w ↦
+          let next = order-takes run.selection run.journal k entry here (sym told ∙ w.if-chosen.true) in
+          rw w.text-is (added _ _ _ _ _ _ c.loop-k.invariant w.in_ok-push_thread.ensures next)
       | else-chosen w ↦
           rw (w.text-is, order-passes run.selection run.journal k entry here (sym told ∙ w.if-chosen.false)) c.loop-k.invariant
     ]
