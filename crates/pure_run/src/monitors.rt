@@ -30,7 +30,9 @@ pub(crate) fn watch(failed: &mut Vec<Option<u32>>, world: &World, step: u32, mon
 {
     for (i, monitor) in monitors.iter().enumerate() {
         if failed[i].is_none() {
-            failed[i] = place_now(world, step, monitor);
+            if let Some(place) = place_now(world, step, monitor) {
+                failed[i] = Some(place);
+            }
         }
     }
 }
