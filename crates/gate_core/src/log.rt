@@ -48,6 +48,7 @@ impl<R: Routine> Log<R> {
     }
 
     /// What the routine announces now.
+    #[inline(always)]
     pub fn next(&self) -> Option<Event>
         ensures { result ≡ R.announced self.now.now }
     {
@@ -80,6 +81,7 @@ impl<R: Routine> Log<R> {
     }
 
     // Adds the event that the routine announces, if any, with this reply, where there is room.
+    #[inline(always)]
     pub(crate) fn take(&mut self, event: Option<Event>, reply: u64)
         requires { event ≡ R.announced self.old.now }
         ensures { self.new.start ≡ self.old.start }

@@ -51,6 +51,7 @@ impl<S: Draws, O: Draws> Core<S, O> {
 
     /// Says the word of a thread that is due: the event that it announces, or that it has ended. With the last
     /// word that is due the next step or the verdict is decided.
+    #[inline(always)]
     pub fn say(&mut self, thread: ThreadNo, event: Option<Event>)
         requires { slice_get self.old.words thread ≡ Some Due }
         ensures { self.new ≡ after_word self.old thread event }
@@ -72,6 +73,7 @@ impl<S: Draws, O: Draws> Core<S, O> {
 
     /// Makes the step of the thread that is granted it, and answers the reply to its event. Its next word is due
     /// then.
+    #[inline(always)]
     pub fn perform(&mut self, thread: ThreadNo) -> u64
         requires { granted_of (setup_by S.Draws O.Draws self.old) self.old ≡ Some thread }
         ensures step { IsStepTo (setup_by S.Draws O.Draws self.old) self.old thread result self.new }

@@ -71,6 +71,7 @@ impl<S: Draws, O: Draws> Running<S, O> {
 
     // Decides what comes next: a word while some are due, else a verdict or the pick of the strategy.
     #[tactic(auto, unfolding(seed_draws::specs::Answers::after_bounds))]
+    #[inline(always)]
     fn decide(&mut self, history: &History<S, O>)
         requires made { IsDecidable history.now self.old }
         requires due { self.old.next ≡ Due }
@@ -106,6 +107,7 @@ impl<S: Draws, O: Draws> Running<S, O> {
     }
 
     // Why the run stops before a draw is asked for, by the causes in their order.
+    #[inline(always)]
     fn stop(&self, history: &History<S, O>) -> Option<Verdict>
         requires { IsDecidable history.now self.now }
         ensures { result ≡ stop_at history.now self.now }
@@ -137,6 +139,7 @@ impl<S: Draws, O: Draws> Running<S, O> {
     }
 
     // The wrong count that is found first. After a step only its thread can have one.
+    #[inline(always)]
     fn wrong(&self, history: &History<S, O>) -> Option<(ThreadNo, u32, u32)>
         requires { IsDecidable history.now self.now }
         ensures { result ≡ wrong_of self.now.walk self.now.view }
@@ -149,6 +152,7 @@ impl<S: Draws, O: Draws> Running<S, O> {
 
     // The parts after a thread has said its word, which was due. With the last word that is due it is decided what comes
     // next.
+    #[inline(always)]
     pub(crate) fn say(&mut self, history: &History<S, O>, thread: ThreadNo, event: &Option<Event>)
         requires core { IsCore S.Draws O.Draws (before_word history.now thread) self.old }
         requires said { slice_get history.now.words thread ≡ Some (Said event.now) }
@@ -177,6 +181,7 @@ impl<S: Draws, O: Draws> Running<S, O> {
     }
 
     // The entry of the step that is granted, and the parts after it: the next word of its thread is due.
+    #[inline(always)]
     pub(crate) fn perform(&mut self, history: &History<S, O>, thread: ThreadNo) -> Entry
         requires core { IsCore S.Draws O.Draws history.now self.old }
         requires granted { granted_of (setup_by S.Draws O.Draws history.now) history.now ≡ Some thread }

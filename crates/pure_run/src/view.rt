@@ -13,6 +13,7 @@ use test_world::World;
 use walk_rules::{Announced, Seen};
 
 // What a strategy sees of a thread that has said this.
+#[inline(always)]
 pub(crate) fn look_at(world: &World, selection: &Selection, word: &Option<Event>) -> Seen
     ensures { result ≡ seen_word world.now selection.now word.now }
 {
@@ -31,6 +32,7 @@ pub(crate) fn look_at(world: &World, selection: &Selection, word: &Option<Event>
 
 // Looks again at the threads that announce the acquire of the lock that an event was of. What is seen of the others
 // stays.
+#[inline(always)]
 pub(crate) fn look_after(view: &mut Announced, world: &World, words: &[Word], event: &Event)
     requires each { length view.old ≡ length words.now }
     requires few { length words.now ≤ THREADS }
@@ -53,6 +55,7 @@ fn lock_of(event: &Event) -> Option<u64>
 }
 
 // Puts what is seen of the threads that announce the acquire of a lock, where that is enabled now, or isn't.
+#[inline(never)]
 fn look_again(view: &mut Announced, words: &[Word], lock: u64, enabled: bool)
     requires each { length view.old ≡ length words.now }
     requires few { length words.now ≤ THREADS }

@@ -25,6 +25,7 @@ impl Routine for AnyRoutine {
 
     ghost after_reply = { any_after };
 
+    #[inline(always)]
     fn announce(&self) -> Option<Event> {
         match self {
             AnyRoutine::Steps(steps) => steps.announce(),
@@ -35,6 +36,7 @@ impl Routine for AnyRoutine {
         }
     }
 
+    #[inline(always)]
     fn take(&mut self, reply: u64) {
         match self {
             AnyRoutine::Steps(steps) => steps.take(reply),

@@ -50,6 +50,7 @@ pub enum Shape {
 
 impl Shape {
     // The event, each operand replaced by its value.
+    #[inline(always)]
     pub(crate) fn event(&self, registers: &[u64]) -> Event
         ensures { result ≡ event_of registers.now self.now }
     {

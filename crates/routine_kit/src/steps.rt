@@ -43,6 +43,7 @@ impl Routine for Steps {
 
     ghost after_reply = { steps_after };
 
+    #[inline(always)]
     fn announce(&self) -> Option<Event> {
         if self.times == 0 {
             return None;
@@ -53,6 +54,7 @@ impl Routine for Steps {
         }
     }
 
+    #[inline(always)]
     fn take(&mut self, reply: u64) {
         let lines = self.lines.as_slice();
         if let Some(
@@ -82,6 +84,7 @@ impl Routine for Steps {
 
 // Goes on from a place to the next event line, through as many rounds as are left. Gives the times left and the
 // place, both 0 where none is left.
+#[inline(always)]
 fn settled(lines: &[Line], times: u16, place: usize, registers: &mut [u64]) -> (u16, usize)
     requires { length lines.now ≤ LINES }
     ensures { record { lines = lines.now; times = result.0; place = result.1; registers = registers.new } ≡ settled lines.now times place registers.old }

@@ -70,6 +70,7 @@ impl World {
     }
 
     /// Makes an event of the thread, one that is enabled, and answers its reply.
+    #[inline(always)]
     pub fn apply(&mut self, thread: ThreadNo, event: &Event) -> u64
         requires { IsTrue (is_enabled self.old event.now) }
         ensures reply { result ≡ reply self.old thread event.now }

@@ -19,6 +19,7 @@ use seed_draws::{DrawFault, Draws};
 use surw_base::THREADS;
 
 // Makes the changes before a step, at the first one after the draws, and picks the thread of highest priority.
+#[inline(never)]
 pub(crate) fn pick<S: Draws>(
     depth: u8,
     counts: &Weights,

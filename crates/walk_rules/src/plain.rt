@@ -9,6 +9,7 @@ use seed_draws::Draws;
 
 // Picks among the threads that can go on by their number.
 #[tactic(auto, using(crate::proofs::AbleThreads::picks), unfolding(seed_draws::specs::Answers::answers, seed_draws::specs::Answers::after_bounds))]
+#[inline(always)]
 pub(crate) fn pick<O: Draws>(view: &Announced, other: &mut O) -> Picked
     requires { 0 < plain_bound view.now }
     ensures picked { result ≡ granted_at (plain_thread view.now) (answers O.Draws other.old (plain_bound view.now ∷ [])) }

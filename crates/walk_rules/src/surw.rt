@@ -14,6 +14,7 @@ use surw_base::{THREADS, ThreadNo};
 
 // The thread that is intended: the one before, or the thread at a drawn place of the bag of the numbers left.
 #[tactic(auto, unfolding(seed_draws::specs::Answers::answers, seed_draws::specs::Answers::after_bounds))]
+#[inline(always)]
 pub(crate) fn intend<S: Draws>(
     left: &Weights,
     intended: Option<ThreadNo>,
@@ -41,6 +42,7 @@ pub(crate) fn intend<S: Draws>(
 
 // Picks among the threads whose event isn't selected and the intended one, or among all where there is none of these.
 #[tactic(auto, using(crate::proofs::AbleThreads::picks, crate::proofs::SurwLaws::places), unfolding(seed_draws::specs::Answers::answers, seed_draws::specs::Answers::after_bounds))]
+#[inline(always)]
 pub(crate) fn choose<O: Draws>(
     view: &Announced,
     intended: Option<ThreadNo>,

@@ -11,6 +11,7 @@ use surw_base::ThreadNo;
 
 // Picks the thread at a drawn place of the bag of the numbers left, kept to the threads that can go on.
 #[tactic(auto, using(crate::proofs::AbleThreads::picks), unfolding(seed_draws::specs::Answers::answers, seed_draws::specs::Answers::after_bounds))]
+#[inline(always)]
 pub(crate) fn pick<S: Draws>(left: &Weights, view: &Announced, selected: &mut S) -> Picked
     requires each { length view.now ≡ length left.now }
     requires right { first_wrong left.now view.now ≡ None }

@@ -120,6 +120,7 @@ impl Walk {
     /// followed, it has an entry for this step, whose thread can go on. It stops only where a source refuses in this
     /// call, and is then as before.
     #[tactic(auto, unfolding(seed_draws::specs::Answers::after_bounds))]
+    #[inline(always)]
     pub fn pick<S: Draws, O: Draws>(
         &mut self,
         step: u32,
@@ -169,6 +170,7 @@ impl Walk {
 
     /// Tells that the step of the last pick was done, and whether its event was selected. Where the rule counts
     /// selected events, a number is left for the thread of one.
+    #[inline(always)]
     pub fn done(&mut self, thread: ThreadNo, chosen: bool, forced: bool)
         requires granted { self.old.waiting ≡ Some (record { thread = thread; forced = forced }) }
         requires left { IsTrue (counts_down self.old.rule) → IsTrue chosen → 0 < slice_index self.old.left thread }
@@ -199,6 +201,7 @@ impl Walk {
     }
 
     /// The same for one thread alone. Where no other thread is wrong it is what `wrong` finds.
+    #[inline(always)]
     pub fn wrong_at(&self, view: &Announced, thread: ThreadNo) -> Option<(ThreadNo, u32, u32)>
         requires each { length view.now ≡ length self.now.counts }
         requires thread { thread < length view.now }
