@@ -3,6 +3,8 @@
 // tapes or a seed. A file that is past this ends with status 3 and no fault line.
 #[path = "plan/cache.rs"]
 mod cache;
+#[path = "plan/core.rs"]
+mod core;
 #[path = "plan/draws.rs"]
 mod draws;
 #[path = "plan/log.rs"]
@@ -21,7 +23,10 @@ mod saved;
 mod seeded;
 #[path = "plan/sha256.rs"]
 mod sha256;
+#[path = "plan/threads.rs"]
+mod threads;
 
+use self::core::Core;
 use cache::Cache;
 use draws::{Draws, Streams, Tapes};
 use log::Log;
@@ -33,6 +38,7 @@ use saved::{hex, read_saved, write, Asked};
 use sha256::sha256;
 use std::io::Write;
 use std::process::exit;
+use threads::run_on_threads;
 
 const THREADS: usize = 16;
 const STEPS: u64 = 65_536;
@@ -206,8 +212,9 @@ fn main() {
     let words: Vec<String> = std::env::args().collect();
     let words: Vec<&str> = words[1..].iter().map(String::as_str).collect();
     match words[..] {
-        ["plan", file] => plan(file, None),
-        ["plan", file, "--save", path] => plan(file, Some(path)),
+        ["run", file] => plan(file, None, true),
+        ["plan", file] => plan(file, None, false),
+        ["plan", file, "--save", path] => plan(file, Some(path), false),
         ["check", saved] => check(saved),
         ["make", number] => make(number),
         ["replay", file, saved] => replay(file, saved),
@@ -240,7 +247,7 @@ fn saved_of(file: &str) -> saved::Saved {
     })
 }
 
-fn plan(file: &str, save: Option<&str>) {
+fn plan(file: &str, save: Option<&str>, on_threads: bool) {
     let bytes = bytes_of(file, FILE_LIMIT);
     let scenario = scenario_of(&bytes);
     let counts = match &scenario.counts {
@@ -252,8 +259,8 @@ fn plan(file: &str, save: Option<&str>) {
         }),
     };
     let run = match &scenario.tapes {
-        Some((selected, other)) => run_of(&scenario, &counts, &mut Tapes::new(selected, other)),
-        None => run_of(&scenario, &counts, &mut Streams::of_run(scenario.seed, scenario.strategy)),
+        Some((selected, other)) => run_of(&scenario, &counts, &mut Tapes::new(selected, other), on_threads),
+        None => run_of(&scenario, &counts, &mut Streams::of_run(scenario.seed, scenario.strategy), on_threads),
     };
     if let Some(path) = save {
         std::fs::write(path, write(&sha256(&bytes), &run.journal)).unwrap();
@@ -271,7 +278,7 @@ fn make(number: &str) {
     }
     let scenario = Scenario { seed: number, ..scenario_of(text.as_bytes()) };
     let counts = profile(&scenario).unwrap_or_else(|_| exit(3));
-    let run = run_of(&scenario, &counts, &mut Streams::of_run(scenario.seed, scenario.strategy));
+    let run = run_of(&scenario, &counts, &mut Streams::of_run(scenario.seed, scenario.strategy), false);
     let mut steps = Vec::with_capacity(40 * run.journal.len());
     push_steps(&mut steps, &run);
     let mut out = Vec::with_capacity(1024 + 4 * run.journal.len());
@@ -313,11 +320,24 @@ fn tell(run: &Run, scenario: &Scenario) {
 }
 
 // The run under the strategy of the scenario.
-fn run_of(scenario: &Scenario, counts: &[u64], draws: &mut impl Draws) -> Run {
+fn run_of(scenario: &Scenario, counts: &[u64], draws: &mut (impl Draws + Send), on_threads: bool) -> Run {
     match scenario.strategy {
-        URW => run::<URW>(scenario, counts, &[], draws),
-        SURW => run::<SURW>(scenario, counts, &[], draws),
-        PCT => run::<PCT>(scenario, counts, &[], draws),
-        _ => run::<PLAIN>(scenario, counts, &[], draws),
+        URW => run_under::<URW>(scenario, counts, draws, on_threads),
+        SURW => run_under::<SURW>(scenario, counts, draws, on_threads),
+        PCT => run_under::<PCT>(scenario, counts, draws, on_threads),
+        _ => run_under::<PLAIN>(scenario, counts, draws, on_threads),
+    }
+}
+
+fn run_under<const STRATEGY: u8>(
+    scenario: &Scenario,
+    counts: &[u64],
+    draws: &mut (impl Draws + Send),
+    on_threads: bool,
+) -> Run {
+    if on_threads {
+        run_on_threads::<STRATEGY>(scenario, counts, draws)
+    } else {
+        run::<STRATEGY>(scenario, counts, &[], draws)
     }
 }
