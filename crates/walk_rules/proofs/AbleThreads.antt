@@ -1,11 +1,11 @@
 -- The threads that can go on, and numbers that are kept to them.
-use Rattle.std.proofs.Common.{◌≡◌, ℕ, zero, suc, ◌+◌, ◌<◌, true, false, cond, IsTrue, List, [], ◌∷◌, length, get_or, take, sum, refl, ap, sym, subst, ◌∙◌, inl, inr, arith}
+use Rattle.std.proofs.Common.{◌≡◌, ℕ, zero, suc, ◌+◌, ◌<◌, ◌≤◌, true, false, cond, IsTrue, List, [], ◌∷◌, length, get_or, take, sum, refl, ap, sym, subst, ◌∙◌, inl, inr, arith}
 use Rattle.std.proofs.lemmas.Bool.{false≢true, cases_lt, cases_Bool, cond-true, cond-false}
-use Rattle.std.proofs.lemmas.List.{get_or_past}
-use Rattle.std.proofs.lemmas.List.Sums.{sum_by-cons}
+use Rattle.std.proofs.lemmas.List.{get_or_past, take_all}
+use Rattle.std.proofs.lemmas.List.Sums.{sum_by-cons, sum_by_more}
 use Rattle.std.specs.List.{count_by}
 use Rattle.draw_split.specs.Bag.{pick}
-use Rattle.draw_split.proofs.Bag.{IsAt, placed, at-below, listed}
+use Rattle.draw_split.proofs.Bag.{IsAt, pick-at, placed, at-below, listed}
 use Rattle.walk_rules.specs.Seen.{is_able, seen_of, able_threads, kept_to_able}
 use Rattle.walk_rules.specs.declared.seen.Seen.{Seen}
 use Rattle.walk_rules.specs.declared.seen.Seen.TheVariants.{Over, Held, Able}
@@ -132,6 +132,42 @@ kept-positive left view thread able some =
     let is : get_or kept thread 0 ≡ get_or left thread 0 = kept-index left view thread ∙ cond-true (is_able (seen_of view thread)) (get_or left thread 0) 0 able in
     let at : IsAt kept (sum (take thread kept)) thread 0 = record { within = omega (arith, is); there = omega arith } in
     omega (arith, at-below at)
+
+-- ---- the way through the threads with the numbers that are kept
+
+-- the next thread's number
+module _ (left : List ℕ) (view : List Seen) (thread : ℕ) (lt : thread < length left) where
+  kept-listed : thread < length (kept_to_able left view)
+  kept-listed = omega (arith, lt, length-kept left view)
+
+  kept-next : sum (take (thread + 1) (kept_to_able left view)) ≡ sum (take thread (kept_to_able left view)) + get_or (kept_to_able left view) thread 0
+  kept-next = let listed = kept-listed in omega (arith, sum_by_more (λ x. x) (kept_to_able left view) thread 0 listed)
+
+  -- it is kept where the thread can go on
+  pub kept-more : IsTrue (is_able (seen_of view thread)) → sum (take (thread + 1) (kept_to_able left view)) ≡ sum (take thread (kept_to_able left view)) + get_or left thread 0
+  kept-more able =
+      let here = kept-index left view thread ∙ cond-true (is_able (seen_of view thread)) (get_or left thread 0) 0 able in
+      let next = kept-next in
+      omega (arith, here, next)
+
+  -- and else nothing is
+  pub kept-same : is_able (seen_of view thread) ≡ false → sum (take (thread + 1) (kept_to_able left view)) ≡ sum (take thread (kept_to_able left view))
+  kept-same cannot =
+      let here = kept-index left view thread ∙ cond-false (is_able (seen_of view thread)) (get_or left thread 0) 0 cannot in
+      let next = kept-next in
+      omega (arith, here, next)
+
+  -- a place within it is this thread's
+  pub kept-found : IsTrue (is_able (seen_of view thread)) → (rest place : ℕ) → rest + sum (take thread (kept_to_able left view)) ≡ place
+      → rest < get_or left thread 0 → pick (kept_to_able left view) place ≡ thread
+  kept-found able rest place there within =
+      let here = kept-index left view thread ∙ cond-true (is_able (seen_of view thread)) (get_or left thread 0) 0 able in
+      let at : IsAt (kept_to_able left view) place thread rest = record { within = omega (arith, here, within); there = there } in
+      pick-at at
+
+-- all of them
+pub kept-all : (left : List ℕ) (view : List Seen) (thread : ℕ) → length left ≤ thread → sum (take thread (kept_to_able left view)) ≡ sum (kept_to_able left view)
+kept-all left view thread past = ap sum (take_all thread (kept_to_able left view) (omega (arith, past, length-kept left view)))
 
 -- what is known of a pick
 pub ruleset picks = (able-place, kept-pick)

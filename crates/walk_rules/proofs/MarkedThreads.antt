@@ -1,8 +1,9 @@
 -- The threads that pass a test, as a set with a bit for each.
-use Rattle.std.proofs.Common.{◌≡◌, ℕ, zero, suc, ◌+◌, ◌*◌, ◌^◌, ◌<◌, ◌≤◌, Bool, true, false, cond, List, [], ◌∷◌, length, get_or, map, replicate, set, take, ◌++◌, refl, ap, sym, ◌∙◌, arith}
+use Rattle.std.proofs.Common.{◌≡◌, ℕ, zero, suc, ◌+◌, ◌*◌, ◌^◌, ◌<◌, ◌≤◌, Bool, true, false, cond, eqb, List, [], ◌∷◌, length, get_or, map, replicate, set, take, ◌++◌, refl, ap, sym, ◌∙◌, arith}
 use Rattle.std.proofs.Math.Nat.{pow-suc, pow-le-pow_right}
-use Rattle.std.proofs.lemmas.List.{append-nil, drop_all, length-map, take_all}
-use Rattle.std.proofs.lemmas.Simd.{mask_l-lt, ones-mask_l}
+use Rattle.std.proofs.lemmas.List.{append-nil, drop_all, get_or-map, length-map, take_all}
+use Rattle.std.proofs.lemmas.Simd.{bit_mask_l, mask_l-lt, ones-mask_l}
+use Rattle.std.specs.Int.{bit_at}
 use Rattle.std.specs.Int.RustNames.{count_ones}
 use Rattle.std.specs.List.{count_by, refill}
 use Rattle.std.specs.Simd.Lanes.{mask_l}
@@ -30,6 +31,17 @@ marked-has test (seen ∷ view) zero within = omega arith
 marked-has test (seen ∷ view) (suc thread) within =
     let rest = marked-has test view thread (omega (arith, within)) in
     omega (arith, rest, bit-more (test (get_or view thread Over)) thread)
+
+-- its bit says whether it does
+pub marked-bit : (test : Seen → Bool) (view : List Seen) (thread : ℕ) → thread < length view
+    → eqb (bit_at (mask_l (map test view)) thread) 1 ≡ test (get_or view thread Over)
+marked-bit test view thread within =
+    ap (λ n. eqb n 1) (bit_mask_l (map test view) thread ∙ ap (λ (b : Bool). cond {A = ℕ} b 1 0) (get_or-map test view thread Over false within))
+    ∙ back (test (get_or view thread Over))
+  where
+    back : (b : Bool) → eqb (cond b 1 0) 1 ≡ b
+    back true = refl
+    back false = refl
 
 -- one thread seen anew
 pub marked-set : (test : Seen → Bool) (view : List Seen) (thread : ℕ) (seen : Seen) → thread < length view

@@ -108,12 +108,12 @@ impl Announced {
         self.able.at(place)
     }
 
-    // The threads that can go on.
-    pub(crate) fn able_set(&self) -> ThreadSet
-        ensures threads { members THREADS 0 result.bits ≡ able_threads self.now }
-        ensures few { result.bits < 2 ^ THREADS }
+    // Whether a thread can go on.
+    pub(crate) fn is_able(&self, thread: usize) -> bool
+        requires { thread < length self.now }
+        ensures { result ≡ is_able (seen_of self.now thread) }
     {
-        self.able
+        self.able.has(thread)
     }
 
     // The threads that announce an event that isn't enabled.

@@ -1,4 +1,5 @@
-ghost use Rattle.std.specs.Prelude.{◌≡◌, ◌+◌, ◌^◌, ◌<◌, ◌≤◌, ◌∷◌, length, slice_index, if◌then◌else◌};
+ghost use Rattle.std.specs.Prelude.{◌≡◌, ◌+◌, ◌^◌, ◌<◌, ◌≤◌, ◌==◌, ◌∷◌, length, slice_index, if◌then◌else◌};
+ghost use Rattle.std.specs.Int.{bit_at};
 ghost use Rattle.surw_base.specs.declared.limits.TheConstants.{THREADS};
 ghost use Rattle.walk_rules.specs.ThreadSet.{members};
 
@@ -31,6 +32,14 @@ impl ThreadSet {
         if now {
             self.bits += bit;
         }
+    }
+
+    // Whether a thread is in it.
+    pub(crate) fn has(&self, thread: usize) -> bool
+        requires { thread < THREADS }
+        ensures { result ≡ (bit_at self.now.bits thread == 1) }
+    {
+        self.bits >> thread & 1 == 1
     }
 
     // How many threads are in it.

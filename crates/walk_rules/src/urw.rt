@@ -1,4 +1,5 @@
-ghost use Rattle.std.specs.Prelude.{◌≡◌, ◌<◌, ◌∷◌, [], None, length};
+ghost use Rattle.std.specs.Prelude.{◌≡◌, ◌<◌, ◌≤◌, ◌∷◌, [], None, length};
+ghost use Rattle.surw_base.specs.declared.limits.TheConstants.{THREADS};
 ghost use Rattle.seed_draws.specs.Answers.{after_bounds, answers};
 ghost use Rattle.walk_rules.specs.Granted.{granted_at};
 ghost use Rattle.walk_rules.specs.Urw.{urw_bound, urw_thread};
@@ -7,7 +8,7 @@ ghost use Rattle.walk_rules.specs.Walk.{first_wrong, GrantsAble};
 use crate::{Announced, Picked};
 use draw_split::Weights;
 use seed_draws::Draws;
-use surw_base::ThreadNo;
+use surw_base::{THREADS, ThreadNo};
 
 // Picks the thread at a drawn place of the bag of the numbers left, kept to the threads that can go on.
 #[tactic(auto, using(crate::proofs::AbleThreads::picks), unfolding(seed_draws::specs::Answers::answers, seed_draws::specs::Answers::after_bounds))]
@@ -22,7 +23,7 @@ pub(crate) fn pick<S: Draws>(left: &Weights, view: &Announced, selected: &mut S)
 {
     match selected.below(bound(left, view)) {
         Ok(draw) => Picked::Grant {
-            thread: kept_at(left, view, draw),
+            thread: kept_at(left.as_slice(), view, draw),
             forced: false,
         },
         Err(fault) => Picked::Stop(fault),
@@ -46,20 +47,21 @@ fn bound(left: &Weights, view: &Announced) -> u64
 }
 
 // The thread at a place of that bag.
-fn kept_at(left: &Weights, view: &Announced, place: u64) -> ThreadNo
+fn kept_at(left: &[u32], view: &Announced, place: u64) -> ThreadNo
     requires each { length view.now ≡ length left.now }
+    requires threads { length left.now ≤ THREADS }
     requires drawn { place < urw_bound left.now view.now }
     ensures { result ≡ urw_thread left.now view.now place }
 {
-    let mut able = view.able_set();
     let mut rest = place;
-    for _passed in 0..able.len() {
-        let thread = able.take_lowest();
-        let number = u64::from(left.left(thread));
-        if rest < number {
-            return thread;
+    for (thread, number) in left.iter().enumerate() {
+        if view.is_able(thread) {
+            let number = u64::from(*number);
+            if rest < number {
+                return ThreadNo::new(thread as u8).unwrap();
+            }
+            rest -= number;
         }
-        rest -= number;
     }
     unreachable!()
 }
