@@ -3,14 +3,19 @@
 // lines that all threads share, and in as many of its thread's own; LINES may be 0. They hand on in one of these ways:
 //
 //     lock   one lock, and for each thread a condition variable at which it sleeps
-//     word   one atomic word, which is the number of the next step; a thread peeks at it a thousand times, and parks
+//     word   one atomic word, which is the number of the next step; a thread peeks at it a thousand times, and sleeps
 //     park   the same without a peek
+//     timed  the same, with a timer that is set at each sleep
 //
 // Prints the nanoseconds a step, the start of the threads left out.
+#[path = "plan/place.rs"]
+mod place;
+
+use place::{Place, Sleep};
 use std::hint::spin_loop;
 use std::sync::atomic::{AtomicU64, AtomicUsize, Ordering::Relaxed, Ordering::SeqCst};
-use std::sync::{Barrier, Condvar, Mutex, OnceLock};
-use std::thread::{self, Thread};
+use std::sync::{Barrier, Condvar, Mutex};
+use std::thread;
 use std::time::{Duration, Instant};
 
 const PEEKS: u32 = 1000;
@@ -71,8 +76,8 @@ fn by_lock(order: &[usize], threads: usize, lines: &[Line]) -> Duration {
     })
 }
 
-fn by_word(order: &[usize], threads: usize, lines: &[Line], peeks: u32) -> Duration {
-    let places: Vec<OnceLock<Thread>> = (0..threads).map(|_| OnceLock::new()).collect();
+fn by_word(order: &[usize], threads: usize, lines: &[Line], peeks: u32, sleep: Sleep) -> Duration {
+    let places: Vec<Place> = (0..threads).map(|_| Place::new(sleep)).collect();
     let word = AtomicUsize::new(0);
     let comes_soon = |me: usize| {
         for _ in 0..peeks {
@@ -84,7 +89,6 @@ fn by_word(order: &[usize], threads: usize, lines: &[Line], peeks: u32) -> Durat
         false
     };
     time(threads, |me, begin| {
-        places[me].set(thread::current()).unwrap();
         let own = lines_of(lines.len());
         begin.wait();
         loop {
@@ -94,15 +98,15 @@ fn by_word(order: &[usize], threads: usize, lines: &[Line], peeks: u32) -> Durat
             }
             if order[step] != me {
                 if !comes_soon(me) {
-                    thread::park();
+                    places[me].sleep();
                 }
                 continue;
             }
             make_step(lines, &own);
             word.store(step + 1, SeqCst);
             match order.get(step + 1) {
-                Some(next) => places[*next].get().unwrap().unpark(),
-                None => places.iter().for_each(|place| place.get().unwrap().unpark()),
+                Some(next) => places[*next].wake(),
+                None => places.iter().for_each(Place::wake),
             }
         }
     })
@@ -120,8 +124,9 @@ fn main() {
     let lines = lines_of(words[2].parse().unwrap());
     let time = match words[1].as_str() {
         "lock" => by_lock(&order, threads, &lines),
-        "word" => by_word(&order, threads, &lines, PEEKS),
-        _ => by_word(&order, threads, &lines, 0),
+        "word" => by_word(&order, threads, &lines, PEEKS, Sleep::Plain),
+        "timed" => by_word(&order, threads, &lines, 0, Sleep::Timed),
+        _ => by_word(&order, threads, &lines, 0, Sleep::Plain),
     };
     assert!(lines.iter().all(|Line(number)| number.load(Relaxed) == order.len() as u64));
     println!("{}", time.as_nanos() / order.len().max(1) as u128);

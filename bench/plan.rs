@@ -1,5 +1,5 @@
-// The jobs `plan`, `check` and `replay` as an ordinary, fast Rust program, to compare with; a replay is made on one
-// thread. It takes scenarios of threads of all kinds but `adder`, with counts that are given or by profile, and with
+// The jobs `plan`, `run`, `check` and `replay` as an ordinary, fast Rust program, to compare with; a replay is made on
+// one thread. It takes scenarios of threads of all kinds but `adder`, with counts that are given or by profile, and with
 // tapes or a seed. A file that is past this ends with status 3 and no fault line.
 #[path = "plan/cache.rs"]
 mod cache;
@@ -9,6 +9,8 @@ mod core;
 mod draws;
 #[path = "plan/log.rs"]
 mod log;
+#[path = "plan/place.rs"]
+mod place;
 #[path = "plan/reading.rs"]
 mod reading;
 #[path = "plan/report.rs"]
@@ -30,6 +32,7 @@ use self::core::Core;
 use cache::Cache;
 use draws::{Draws, Streams, Tapes};
 use log::Log;
+use place::{Place, Sleep};
 use reading::read;
 use report::{push_steps, push_summary, report};
 use routines::Routine;
@@ -212,9 +215,10 @@ fn main() {
     let words: Vec<String> = std::env::args().collect();
     let words: Vec<&str> = words[1..].iter().map(String::as_str).collect();
     match words[..] {
-        ["run", file] => plan(file, None, true),
-        ["plan", file] => plan(file, None, false),
-        ["plan", file, "--save", path] => plan(file, Some(path), false),
+        ["run", file] => plan(file, None, Some(Sleep::Plain)),
+        ["run", file, "timed"] => plan(file, None, Some(Sleep::Timed)),
+        ["plan", file] => plan(file, None, None),
+        ["plan", file, "--save", path] => plan(file, Some(path), None),
         ["check", saved] => check(saved),
         ["make", number] => make(number),
         ["replay", file, saved] => replay(file, saved),
@@ -247,7 +251,8 @@ fn saved_of(file: &str) -> saved::Saved {
     })
 }
 
-fn plan(file: &str, save: Option<&str>, on_threads: bool) {
+// Makes the run of a file, on threads where it is said how they sleep.
+fn plan(file: &str, save: Option<&str>, on_threads: Option<Sleep>) {
     let bytes = bytes_of(file, FILE_LIMIT);
     let scenario = scenario_of(&bytes);
     let counts = match &scenario.counts {
@@ -278,7 +283,7 @@ fn make(number: &str) {
     }
     let scenario = Scenario { seed: number, ..scenario_of(text.as_bytes()) };
     let counts = profile(&scenario).unwrap_or_else(|_| exit(3));
-    let run = run_of(&scenario, &counts, &mut Streams::of_run(scenario.seed, scenario.strategy), false);
+    let run = run_of(&scenario, &counts, &mut Streams::of_run(scenario.seed, scenario.strategy), None);
     let mut steps = Vec::with_capacity(40 * run.journal.len());
     push_steps(&mut steps, &run);
     let mut out = Vec::with_capacity(1024 + 4 * run.journal.len());
@@ -320,7 +325,7 @@ fn tell(run: &Run, scenario: &Scenario) {
 }
 
 // The run under the strategy of the scenario.
-fn run_of(scenario: &Scenario, counts: &[u64], draws: &mut (impl Draws + Send), on_threads: bool) -> Run {
+fn run_of(scenario: &Scenario, counts: &[u64], draws: &mut (impl Draws + Send), on_threads: Option<Sleep>) -> Run {
     match scenario.strategy {
         URW => run_under::<URW>(scenario, counts, draws, on_threads),
         SURW => run_under::<SURW>(scenario, counts, draws, on_threads),
@@ -333,11 +338,10 @@ fn run_under<const STRATEGY: u8>(
     scenario: &Scenario,
     counts: &[u64],
     draws: &mut (impl Draws + Send),
-    on_threads: bool,
+    on_threads: Option<Sleep>,
 ) -> Run {
-    if on_threads {
-        run_on_threads::<STRATEGY>(scenario, counts, draws)
-    } else {
-        run::<STRATEGY>(scenario, counts, &[], draws)
+    match on_threads {
+        Some(sleep) => run_on_threads::<STRATEGY>(scenario, counts, draws, sleep),
+        None => run::<STRATEGY>(scenario, counts, &[], draws),
     }
 }

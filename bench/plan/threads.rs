@@ -3,10 +3,10 @@ use super::*;
 use std::cell::UnsafeCell;
 use std::hint::spin_loop;
 use std::sync::atomic::{AtomicUsize, Ordering::SeqCst};
-use std::sync::{Mutex, OnceLock};
-use std::thread::{self, available_parallelism, Thread};
+use std::sync::Mutex;
+use std::thread::{self, available_parallelism};
 
-// How often a thread peeks at the turn before it parks, where there is a processor for each.
+// How often a thread peeks at the turn before it sleeps, where there is a processor for each.
 const PEEKS: u32 = 1000;
 
 // What the turn is once the run has stopped.
@@ -16,7 +16,7 @@ const OVER: usize = usize::MAX;
 struct Turns<'a, const STRATEGY: u8, D: Draws> {
     core: UnsafeCell<Core<'a, STRATEGY, D>>,
     turn: AtomicUsize,
-    places: Vec<OnceLock<Thread>>,
+    places: Vec<Place>,
     peeks: u32,
     verdict: Mutex<Option<Verdict>>,
 }
@@ -25,12 +25,12 @@ unsafe impl<const STRATEGY: u8, D: Draws + Send> Sync for Turns<'_, STRATEGY, D>
 
 impl<'a, const STRATEGY: u8, D: Draws + Send> Turns<'a, STRATEGY, D> {
     // The turns of a core, the first one not yet given.
-    fn new(core: Core<'a, STRATEGY, D>, threads: usize) -> Self {
+    fn new(core: Core<'a, STRATEGY, D>, threads: usize, sleep: Sleep) -> Self {
         let processors = available_parallelism().map_or(threads, |count| count.get());
         Turns {
             core: UnsafeCell::new(core),
             turn: AtomicUsize::new(threads),
-            places: (0..threads).map(|_| OnceLock::new()).collect(),
+            places: (0..threads).map(|_| Place::new(sleep)).collect(),
             peeks: if processors >= threads { PEEKS } else { 0 },
             verdict: Mutex::new(None),
         }
@@ -41,14 +41,12 @@ impl<'a, const STRATEGY: u8, D: Draws + Send> Turns<'a, STRATEGY, D> {
         match core.decide() {
             Ok(thread) => {
                 self.turn.store(thread, SeqCst);
-                if let Some(place) = self.places[thread].get() {
-                    place.unpark();
-                }
+                self.places[thread].wake();
             }
             Err(verdict) => {
                 *self.verdict.lock().unwrap() = Some(verdict);
                 self.turn.store(OVER, SeqCst);
-                self.places.iter().filter_map(OnceLock::get).for_each(Thread::unpark);
+                self.places.iter().for_each(Place::wake);
             }
         }
     }
@@ -63,7 +61,6 @@ impl<'a, const STRATEGY: u8, D: Draws + Send> Turns<'a, STRATEGY, D> {
 
     // Makes the steps of a thread.
     fn work(&self, me: usize, mut routine: Routine) {
-        self.places[me].set(thread::current()).unwrap();
         loop {
             match self.turn.load(SeqCst) {
                 OVER => return,
@@ -75,7 +72,7 @@ impl<'a, const STRATEGY: u8, D: Draws + Send> Turns<'a, STRATEGY, D> {
                     self.give(core);
                 }
                 _ if self.comes_soon(me) => {}
-                _ => thread::park(),
+                _ => self.places[me].sleep(),
             }
         }
     }
@@ -85,11 +82,12 @@ pub fn run_on_threads<const STRATEGY: u8>(
     scenario: &Scenario,
     counts: &[u64],
     draws: &mut (impl Draws + Send),
+    sleep: Sleep,
 ) -> Run {
     let mut routines = scenario.routines.clone();
     let announced = routines.iter_mut().map(Routine::announce).collect();
     let core = Core::<STRATEGY, _>::new(scenario, counts, &[], draws, announced);
-    let mut turns = Turns::new(core, routines.len());
+    let mut turns = Turns::new(core, routines.len(), sleep);
     turns.give(unsafe { &mut *turns.core.get() });
     thread::scope(|scope| {
         let turns = &turns;
