@@ -61,14 +61,14 @@ pub enum Event {
     Check { a: u64, b: u64 },
 }
 
-/// One event of each kind. Their numbers are 0.
+/// One event of each kind, those first that a test has most often. Their numbers are 0.
 pub(crate) const FORMS: [Event; 19] = [
-    Event::Acquire { l: 0 },
-    Event::Release { l: 0 },
     Event::Load { c: 0 },
     Event::Store { c: 0, v: 0 },
     Event::Add { c: 0, v: 0 },
     Event::SwapIf { c: 0, a: 0, b: 0 },
+    Event::Acquire { l: 0 },
+    Event::Release { l: 0 },
     Event::Find { p: 0 },
     Event::Claim { p: 0 },
     Event::Fill { f: 0, p: 0 },
