@@ -1,5 +1,5 @@
 -- The answer of a job is that over its file, or for `make` that to its number.
-use Rattle.std.proofs.Common.{◌≡◌, ◌≢◌, ◌⊎◌, inl, inr, refl, ℕ, List}
+use Rattle.std.proofs.Common.{◌≢◌, ◌⊎◌, inl, inr, refl}
 use Rattle.command_words.specs.Ask.{Ask}
 use Rattle.command_words.specs.declared.job.Job.{Job}
 use Rattle.command_words.specs.declared.job.Job.TheVariants.{Order, Draws, Plan, Profile, Check, Make, Run, Replay}

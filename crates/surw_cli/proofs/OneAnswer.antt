@@ -1,5 +1,5 @@
 -- A command line has one answer.
-use Rattle.std.proofs.Common.{◌≡◌, ℕ, List, sym, subst, ◌∙◌}
+use Rattle.std.proofs.Common.{◌≡◌, sym, subst, ◌∙◌}
 use Rattle.command_words.proofs.Asks.{one-ask}
 use Rattle.command_words.specs.Ask.{Ask}
 use Rattle.surw_cli.specs.Answer.{Answer}

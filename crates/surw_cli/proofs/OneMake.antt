@@ -1,5 +1,5 @@
 -- The job `make` makes one answer of a number.
-use Rattle.std.proofs.Common.{◌≡◌, ℕ, List, None, refl, ap, sym, ◌∙◌}
+use Rattle.std.proofs.Common.{◌≡◌, ℕ, None, refl, ap, sym, ◌∙◌}
 use Rattle.fault_text.specs.declared.fault.Fault.{Fault}
 use Rattle.fault_text.specs.declared.fault.Fault.TheVariants.{ProfileStepLimit, ProfileDeadlock}
 use Rattle.pure_run.specs.declared.profiling.ProfileFault.{ProfileFault}

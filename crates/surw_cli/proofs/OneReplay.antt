@@ -1,5 +1,5 @@
 -- The jobs `check` and `replay` make one answer of their files.
-use Rattle.std.proofs.Common.{◌≡◌, ◌≢◌, ℕ, List, Option, None, Ok, Err, refl, ap, sym, subst, ◌∙◌}
+use Rattle.std.proofs.Common.{◌≡◌, ℕ, List, Option, None, Ok, Err, refl, ap, sym, subst, ◌∙◌}
 use Rattle.std.specs.Option.{IsSome}
 use Rattle.fault_text.specs.declared.fault.Fault.TheVariants.{OtherScenario, Replay, Scenario}
 use Rattle.replay_text.specs.Reading.{saved_of}
@@ -8,12 +8,11 @@ use Rattle.replay_text.specs.Summary.{summary_text}
 use Rattle.replay_text.specs.declared.replay_fault.ReplayFault.{ReplayFault}
 use Rattle.report_text.specs.Report.{report_text}
 use Rattle.run_rules.proofs.Outcomes.{one-outcome}
-use Rattle.run_rules.specs.Run.{IsRun, Outcome}
+use Rattle.run_rules.specs.Run.{IsRun}
 use Rattle.run_rules.specs.Setup.{Script}
 use Rattle.scenario_toml.specs.FollowPlan.{IsFollowPlanOf}
 use Rattle.scenario_toml.specs.State.{ScenarioState}
 use Rattle.scenario_toml.specs.declared.fault.ScenarioFault.{ScenarioFault}
-use Rattle.sha2.specs.Sha256.{sha256}
 use Rattle.surw_base.specs.declared.limits.TheConstants.{SAVED_LIMIT}
 use Rattle.surw_io.specs.Content.{Entry}
 use Rattle.surw_cli.specs.Answer.{Answer, Report, Refusal}

@@ -1,7 +1,6 @@
 -- What the jobs `plan` and `run` make of a plan.
 use Rattle.std.proofs.Common.{◌≡◌, ℕ, List, Option, None, ap, sym, subst, ◌∙◌}
 use Rattle.std.specs.Option.{option_map}
-use Rattle.report_text.specs.Report.{report_text}
 use Rattle.routine_kit.specs.declared.any_routine.AnyRoutine.{AnyRoutine}
 use Rattle.run_rules.specs.Run.{IsRun, Outcome}
 use Rattle.run_rules.specs.declared.plan.Plan.{Plan}
@@ -13,7 +12,7 @@ use Rattle.surw_cli.specs.Answer.{Answer}
 use Rattle.surw_cli.specs.Answer as answer
 use Rattle.surw_cli.specs.FileAnswer.{Held}
 use Rattle.surw_cli.specs.PlanAnswer.{plan_answer}
-use Rattle.surw_cli.specs.Planned.{IsPlanned, status_of_run}
+use Rattle.surw_cli.specs.Planned.{IsPlanned}
 use Rattle.surw_cli.specs.Reached.{TellsRun, report_answer, to_create}
 use Rattle.surw_cli.specs.ReplayAnswer.{IsReplayAnswer, IsReplayReport, IsReplayed, OfSaved, replayed_answer}
 use Rattle.surw_cli.specs.Saved.{saved_file}

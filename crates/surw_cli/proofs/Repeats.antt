@@ -1,5 +1,5 @@
 -- The run that follows what was saved of another repeats it.
-use Rattle.std.proofs.Common.{◌≡◌, ◌≢◌, ℕ, ◌+◌, ◌&&◌, ◌<◌, ◌≤◌, Bool, cond, List, length, map, take, Option, None, Some, refl, ap, sym, subst, ◌∙◌, inl, inr, arith}
+use Rattle.std.proofs.Common.{◌≡◌, ℕ, ◌+◌, ◌&&◌, ◌<◌, ◌≤◌, cond, List, length, map, take, Option, None, Some, refl, ap, sym, ◌∙◌, inl, inr, arith}
 use Rattle.std.proofs.lemmas.Bool.{cases_lt}
 use Rattle.std.proofs.lemmas.List.{length-take-le, take-map}
 use Rattle.std.proofs.lemmas.Option.{same_Some, slice_get_past}
@@ -17,7 +17,7 @@ use Rattle.run_rules.proofs.Verdicts.{limit-none, verdict-none}
 use Rattle.run_rules.specs.Journal.{world_after}
 use Rattle.run_rules.specs.MonitorFailures.{failed_at, first_failing, is_ended}
 use Rattle.run_rules.specs.Position.{position_of, world_at}
-use Rattle.run_rules.specs.Replay.{IsKeptVerdict, IsReplayOf, SpeaksWithin, entries_asked, unforced}
+use Rattle.run_rules.specs.Replay.{IsKeptVerdict, IsReplayOf, SpeaksWithin, unforced}
 use Rattle.run_rules.specs.Replies.{routine_says, routines_say}
 use Rattle.run_rules.specs.Run.{IsRun, IsRunJournal, Outcome}
 use Rattle.run_rules.specs.Setup.{Script}

@@ -1,10 +1,9 @@
 -- How the top call ends where no device fails.
-use Rattle.std.proofs.Common.{◌≡◌, ◌≢◌, ◌⊎◌, ℕ, List, Option, Some, None, inl, inr, ⊎_elim, refl}
+use Rattle.std.proofs.Common.{◌≡◌, ◌≢◌, ◌⊎◌, ℕ, List, Option, Some, inl, inr, ⊎_elim, refl}
 use Rattle.fault_text.specs.declared.fault.Fault.TheVariants.{Read}
 use Rattle.surw_io.specs.Cause.{Rose}
 use Rattle.surw_io.specs.Content.{Entry, Missing}
 use Rattle.surw_base.specs.declared.limits.TheConstants.{SAVED_LIMIT}
-use Rattle.scenario_toml.specs.State.{ScenarioState}
 use Rattle.surw_cli.specs.Answer.{Answer, Report, Refusal}
 use Rattle.command_words.specs.Ask.{Ask}
 use Rattle.surw_cli.specs.CommandAnswer.{Files, IsAnswer, NoJob, OfJob, answer_of, answer_to, saved_name}

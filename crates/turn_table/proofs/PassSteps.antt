@@ -2,7 +2,7 @@
 -- with a state of the next round, and no seat holds a turn.
 use Rattle.std.proofs.Common.{◌≡◌, ℕ, ◌+◌, ◌*◌, ◌<◌, ◌≤◌, Bool, true, true≢false, List, [], ◌∷◌, set, refl, sym, ap, ◌∙◌, subst, arith, Option, Some, inl, ⊎_elim, eq-eqb}
 use Rattle.std.specs.Prelude.{slice_index, slice_set, ◌==◌}
-use mathlib.Core.Option.{some, none, some-ne-none, some-injective}
+use mathlib.Core.Option.{some, none}
 use mathlib.Core.Option as maybe
 use lib.ListN.{get_elem?}
 use prog.Atomic.{either}

@@ -1,4 +1,4 @@
-use Rattle.std.proofs.Common.{◌≡◌, ap, ◌∙◌}
+use Rattle.std.proofs.Common.{ap, ◌∙◌}
 use Rattle.gate_core.specs.Log.{made_by}
 use Rattle.gate_core.proofs.Logs.{is-own}
 use Rattle.gate_core.proofs.own_logs.all_own.Goals as goal

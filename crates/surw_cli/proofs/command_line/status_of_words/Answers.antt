@@ -1,4 +1,3 @@
-use Rattle.std.proofs.Common.{subst, sym}
 use Rattle.command_words.proofs.NoWords.{no-words}
 use Rattle.surw_cli.specs.Jobs.{all_jobs}
 use Rattle.surw_cli.proofs.command_line.status_of_words.Goals as goal

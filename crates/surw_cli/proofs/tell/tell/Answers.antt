@@ -1,5 +1,5 @@
-use Rattle.std.proofs.Common.{Result, Ok, Err, List, ℕ, ap, refl, subst, ◌∙◌}
-use Rattle.surw_cli.specs.CommandAnswer.{Files, IsAnswer}
+use Rattle.std.proofs.Common.{Result, Err, ap, refl, subst, ◌∙◌}
+use Rattle.surw_cli.specs.CommandAnswer.{IsAnswer}
 use Rattle.surw_cli.specs.Ending.{Call}
 use Rattle.surw_cli.specs.Reached.{ComesTo}
 use Rattle.surw_cli.specs.declared.report.Report.{Report}

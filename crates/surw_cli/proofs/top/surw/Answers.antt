@@ -1,4 +1,4 @@
-use Rattle.std.proofs.Common.{Err, List, Result, ℕ, ap, inl, map, rules, string_bytes, subst, sym, ◌≡◌}
+use Rattle.std.proofs.Common.{Err, Result, ap, inl, map, rules, string_bytes, subst, sym}
 use Rattle.command_words.specs.Ask.{ask_by}
 use Rattle.scenario_toml.specs.Chosen.{HasDepth}
 use Rattle.surw_cli.specs.CommandAnswer.{Files, IsAnswer, IsAskAnswer, OfJob}

@@ -1,4 +1,4 @@
-use Rattle.std.proofs.Common.{Err, List, Result, ℕ, ap, inl, map, string_bytes, subst, sym, ◌≡◌}
+use Rattle.std.proofs.Common.{Err, Result, ap, inl, map, string_bytes, subst, sym}
 use Rattle.command_words.specs.Ask.{ask_by}
 use Rattle.surw_cli.specs.CommandAnswer.{Files, IsAnswer, IsAskAnswer, OfJob}
 use Rattle.surw_cli.specs.Ending.{Call}

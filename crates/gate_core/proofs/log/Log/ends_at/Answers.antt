@@ -1,4 +1,4 @@
-use Rattle.std.proofs.Common.{◌≡◌, ap, sym, subst, ◌∙◌}
+use Rattle.std.proofs.Common.{sym, subst, ◌∙◌}
 use Rattle.event_class.proofs.Same.{same_word}
 use Rattle.gate_core.specs.Log.{Follows}
 use Rattle.gate_core.proofs.log.Log.ends_at.Goals as goal
