@@ -14,7 +14,7 @@ mod place;
 use place::{Place, Sleep};
 use std::hint::spin_loop;
 use std::sync::atomic::{AtomicU64, AtomicUsize, Ordering::Relaxed, Ordering::SeqCst};
-use std::sync::{Barrier, Condvar, Mutex};
+use std::sync::{Barrier, Condvar, Mutex, OnceLock};
 use std::thread;
 use std::time::{Duration, Instant};
 
@@ -35,19 +35,29 @@ fn make_step(shared: &[Line], own: &[Line]) {
     }
 }
 
+// Where the threads wait for each other before their first step. Who goes on first takes the time.
+struct Begin {
+    all: Barrier,
+    start: OnceLock<Instant>,
+}
+
+impl Begin {
+    fn wait(&self) {
+        self.all.wait();
+        self.start.get_or_init(Instant::now);
+    }
+}
+
 // Starts a thread for each number below `threads`, and takes the time from when all have begun to when all have ended.
-fn time<F: Fn(usize, &Barrier) + Sync>(threads: usize, work: F) -> Duration {
-    let begin = Barrier::new(threads + 1);
-    let mut start = Instant::now();
+fn time<F: Fn(usize, &Begin) + Sync>(threads: usize, work: F) -> Duration {
+    let begin = Begin { all: Barrier::new(threads), start: OnceLock::new() };
     thread::scope(|scope| {
         for me in 0..threads {
             let (begin, work) = (&begin, &work);
             scope.spawn(move || work(me, begin));
         }
-        begin.wait();
-        start = Instant::now();
     });
-    start.elapsed()
+    begin.start.get().map_or(Duration::ZERO, Instant::elapsed)
 }
 
 fn by_lock(order: &[usize], threads: usize, lines: &[Line]) -> Duration {
